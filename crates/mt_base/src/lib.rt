@@ -1,0 +1,39 @@
+//! Values, lists and counters of steps: the small types that every crate of the engine uses.
+//!
+//! Contracts see a `Value` as its bytes, a `List` as the list of its items, and `Steps` as a number.
+#![tactic(auto)]
+
+mod list;
+mod steps;
+mod value;
+
+pub use list::List;
+use std::alloc::{AllocError, AllocFailed};
+pub use steps::Steps;
+pub use value::Value;
+
+/// Want of memory: the one answer that any call which takes memory may give at any time.
+#[derive(Clone, Copy, Debug, PartialEq, Eq, Drop)]
+pub struct NoMemory;
+
+impl From<AllocError> for NoMemory {
+    fn from(_: AllocError) -> Self {
+        NoMemory
+    }
+}
+
+impl<T: Drop> From<AllocFailed<T>> for NoMemory {
+    fn from(_: AllocFailed<T>) -> Self {
+        NoMemory
+    }
+}
+
+fn shared<T: Send + Sync>() {}
+
+/// That threads may share values and lists of what threads may share is proved by this function.
+pub fn are_shared<T: Send + Sync>() {
+    shared::<Value>();
+    shared::<List<T>>();
+    shared::<List<Value>>();
+    shared::<NoMemory>();
+}
