@@ -1,0 +1,5 @@
+pub mod Commands
+pub mod Script
+pub mod World
+pub mod Replies
+pub mod Runs
