@@ -1,0 +1,10 @@
+//! The script reader: the commands of a script, in whatever pieces its bytes come.
+#![tactic(auto)]
+
+mod command;
+mod header;
+mod lines;
+mod reader;
+
+pub use command::{Ask, Command, Next};
+pub use reader::ScriptReader;

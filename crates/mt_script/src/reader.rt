@@ -1,0 +1,4 @@
+//! later
+pub struct ScriptReader {
+    x: u8,
+}
