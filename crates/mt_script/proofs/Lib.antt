@@ -1,2 +1,4 @@
 pub mod Finding
 pub mod Words
+pub mod Items
+pub mod ScanSteps

@@ -1,10 +1,9 @@
 -- Numbers and words of a command line.
-use Rattle.std.proofs.Common.{◌≡◌, ◌≢◌, ℕ, ◌+◌, ◌<◌, ◌≤◌, ◌^◌, ◌⊎◌, inl, inr, List, [], ◌∷◌, ◌++◌, length, get_or, arith, sym, ◌∙◌, ap, refl, Result, Option, Ok, Some, None, MatchOption, codes, true, false, IsTrue, subst, drop, lit<, Bor}
+use Rattle.std.proofs.Common.{◌≡◌, ◌≢◌, ℕ, ◌<◌, ◌^◌, inl, inr, List, ◌∷◌, ◌++◌, length, get_or, arith, sym, ap, Result, Option, Ok, Some, None, MatchOption, codes, true, false, IsTrue, subst, drop, lit<, Bor}
 use Rattle.std.proofs.lemmas.Str.Parse.{IsNumeralModel, numerals_by_value, tells_by_index, parse_gives, digits_value_short}
-use Rattle.std.proofs.lemmas.Str.Pattern.{IsSplitOnceResult, split_after, split_parts}
+use Rattle.std.proofs.lemmas.Str.Pattern.{IsSplitOnceResult, split_after}
 use Rattle.std.proofs.lemmas.Fmt.{digits_decimal, length-decimal-le, decimal_nonempty, decimal_digit, first_decimal, decimal-digits_value}
 use Rattle.std.proofs.lemmas.Bool.{cases_lt}
-use Rattle.std.specs.Char.{IsAsciiDigit}
 use Rattle.std.specs.Int.{IsInRange}
 use Rattle.std.specs.Result.{result_ok}
 use Rattle.std.specs.Str.Parse.{digits_value, ParsesUnsigned}
@@ -19,17 +18,19 @@ small : (n : ℕ) → n < 10 ^ 9 → n < 2 ^ 64
 small n h = omega arith
 
 alone : (n : ℕ) → n < 10 ^ 9 → get_or (decimal n) 0 0 ≡ 48 → length (decimal n) ≡ 1
-alone n h e = elim (cases_lt 0 n) [ inl low ↦ absurd (let l : 48 < get_or (decimal n) 0 0 = first_decimal n low (small n h) in omega (arith, l, e))
-    | inr high ↦ ap length (decimal_digit n (omega arith)) ]
+alone n h e = elim (cases_lt 0 n) [
+  | inl low ↦ absurd (let l : 48 < get_or (decimal n) 0 0 = first_decimal n low (small n h) in omega (arith, l, e))
+  | inr high ↦ ap length (decimal_digit n (omega arith))
+]
 
 -- what `decimal` writes is a number
 pub number_from : (bytes : List ℕ) (n : ℕ) → n < 10 ^ 9 → bytes ≡ decimal n → IsNumber bytes
 number_from bytes n h e = rw e (record {
-    some = decimal_nonempty n (small n h);
-    few = length-decimal-le 9 n (omega arith) h (small n h);
-    lead = alone n h;
-    each = digits_decimal own n (small n h);
-  })
+  some = decimal_nonempty n (small n h);
+  few = length-decimal-le 9 n (omega arith) h (small n h);
+  lead = alone n h;
+  each = digits_decimal own n (small n h);
+})
 
 -- what `parse` gives of a number
 pub parsed : {E : Type 0} → (bytes : List ℕ) (r : Result ℕ E) (o : Option ℕ) → IsNumber bytes → ParsesUnsigned 32 10 bytes r → o ≡ result_ok r →

@@ -1,3 +1,5 @@
 pub mod Places
 pub mod Seen
 pub mod Headers
+pub mod Scans
+pub mod Waits

@@ -2,12 +2,13 @@
 
 ghost use Rattle.std.specs.Prelude.{◌≡◌, ◌≢◌, ℕ, ◌<◌, ◌^◌, ◌↔◌, List, [], ◌∷◌, ◌++◌, codes, IsTrue, IfOk, MatchOption};
 ghost use Rattle.std.specs.Fmt.{decimal};
-ghost use Rattle.mt_session_spec.specs.Commands.{IsName, IsHeader, is_name_byte};
+ghost use Rattle.mt_session_spec.specs.Commands.{IsName, IsHeader, is_name_byte, body_lines, with_body};
+ghost use Rattle.mt_script.specs.Seen.{command_of};
 ghost use Rattle.mt_session_spec.specs.Commands as spec;
 ghost use Rattle.mt_script.specs.Headers.{header_of, Reads, IsNumber};
 
-use super::Ask;
-use mt_base::{NoMemory, Value};
+use super::{Ask, Command};
+use mt_base::{List, NoMemory, Value};
 use std::alloc::Global;
 
 /// The most bytes of a command line.
@@ -22,12 +23,37 @@ pub enum Header {
     Text { name: Value, lines: u32 },
 }
 
+impl Header {
+    /// How many lines of body follow.
+    pub fn lines(&self) -> u32
+        ensures { result ≡ body_lines (header_of self.now) }
+    {
+        match self {
+            Header::Ask(_) => 0,
+            Header::Text { lines, .. } => *lines,
+        }
+    }
+
+    /// The command with this body.
+    pub fn with_body(self, body: List<u8>) -> Command
+        ensures { command_of result ≡ with_body (header_of self) body }
+    {
+        match self {
+            Header::Ask(ask) => Command::Ask(ask),
+            Header::Text { name, .. } => Command::Text { name, body },
+        }
+    }
+}
+
 /// Whether these bytes are a name.
 fn is_name(text: &str) -> bool
     ensures { IsTrue result ↔ IsName text.now }
 {
     let bytes = text.as_bytes();
-    !bytes.is_empty() && bytes.len() <= 64 && bytes[0].is_ascii_alphanumeric() && bytes.iter().all(|b| is_in_name(*b))
+    !bytes.is_empty()
+        && bytes.len() <= 64
+        && bytes[0].is_ascii_alphanumeric()
+        && bytes.iter().all(|b| is_in_name(*b))
 }
 
 fn is_in_name(b: u8) -> bool

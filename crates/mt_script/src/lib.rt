@@ -5,6 +5,7 @@ mod command;
 mod header;
 mod lines;
 mod reader;
+mod scan;
 
 pub use command::{Ask, Command, Next};
 pub use reader::ScriptReader;
