@@ -5,6 +5,7 @@ ghost use Rattle.mt_outside.specs.Faults.{Rose, one_more};
 ghost use Rattle.mt_outside.specs.Memory.{next_call};
 ghost use Rattle.mt_outside.specs.Told.{Told};
 
+use super::calls::Calls;
 use mt_base::List;
 use std::alloc::Global;
 use std::marker::Model;
@@ -30,7 +31,8 @@ pub trait Sink {
     fn write(&mut self, piece: &[u8]) -> Result<usize, SinkError>
         ensures within { IfOk result (λ n. n ≤ length piece.now) }
         ensures some { 0 < length piece.now → IfOk result (λ n. 0 < n) }
-        ensures told { IfOk result (λ n. Told (held self.old) (λ all. held self.new ≡ Some (all ++ take n piece.now))) }
+        ensures told { IfOk result (λ n. Told (held self.old) (λ all.
+            held self.new ≡ Some (all ++ take n piece.now))) }
         ensures kept { OnErr result (held self.new ≡ held self.old) }
         ensures rises { faults self.old ≤ faults self.new }
         ensures failed { IsErrOf result SinkError.Failed → Rose (faults self.old) (faults self.new) };
@@ -40,9 +42,7 @@ pub trait Sink {
 #[derive(Debug, Drop)]
 pub struct MemorySink {
     bytes: List<u8>,
-    calls: u32,
-    fails: List<u32>,
-    faults: u64,
+    calls: Calls,
 }
 
 impl Model for MemorySink {
@@ -50,20 +50,23 @@ impl Model for MemorySink {
 
     ghost Value = { Writing };
 
-    ghost view = { λ s. record { held = s.bytes; calls = s.calls; fails = s.fails; faults = s.faults } };
+    ghost view = { λ s. record {
+      held = s.bytes;
+      calls = s.calls.number;
+      fails = s.calls.fails;
+      faults = s.calls.faults;
+    } };
 }
 
 impl MemorySink {
-    /// A sink that took nothing yet, whose writes with these numbers fail. The first write has the number 1, and so has
-    /// each write from the 2^32 - 1st on that last number. It takes no memory until something is written.
+    /// A sink that took nothing yet, whose writes with these numbers fail. The first write has the number 1; the
+    /// number 2^32 - 1 is that of each write from that one on. No memory is taken until something is written.
     pub fn new(alloc: Global, fails: List<u32>) -> Self
         ensures { result ≡ record { held = []; calls = 0; fails = fails; faults = 0 } }
     {
         MemorySink {
             bytes: List::new(alloc),
-            calls: 0,
-            fails,
-            faults: 0,
+            calls: Calls::new(fails),
         }
     }
 
@@ -82,20 +85,17 @@ impl Sink for MemorySink {
 
     fn write(&mut self, piece: &[u8]) -> Result<usize, SinkError>
         ensures exactly { IsErrOf result SinkError.Failed ↔ Contains self.old.fails (next_call self.old.calls) }
-        ensures ok { OnOk result (self.new ≡ record self.old { held = self.old.held ++ piece.now; calls = next_call self.old.calls }) }
-        ensures err { IsErrOf result SinkError.Failed → self.new ≡ record self.old { calls = next_call self.old.calls; faults = one_more self.old.faults } }
-        ensures no_memory { IsErrOf result SinkError.NoMemory → self.new ≡ record self.old { calls = next_call self.old.calls } }
+        ensures ok { OnOk result (self.new ≡
+            record self.old { held = self.old.held ++ piece.now; calls = next_call self.old.calls }) }
+        ensures err { IsErrOf result SinkError.Failed → self.new ≡
+            record self.old { calls = next_call self.old.calls; faults = one_more self.old.faults } }
+        ensures no_memory { IsErrOf result SinkError.NoMemory → self.new ≡
+            record self.old { calls = next_call self.old.calls } }
         ensures whole { IfOk result (λ n. n ≡ length piece.now) }
-        ensures within { IfOk result (λ n. n ≤ length piece.now) }
-        ensures some { 0 < length piece.now → IfOk result (λ n. 0 < n) }
-        ensures told { IfOk result (λ n. Told (Some self.old.held) (λ all. Some self.new.held ≡ Some (all ++ take n piece.now))) }
-        ensures kept { OnErr result (Some self.new.held ≡ Some self.old.held) }
         ensures rises { self.old.faults ≤ self.new.faults }
         ensures failed { IsErrOf result SinkError.Failed → Rose self.old.faults self.new.faults }
     {
-        self.calls = self.calls.saturating_add(1);
-        if self.fails.as_slice().contains(&self.calls) {
-            self.faults = self.faults.saturating_add(1);
+        if self.calls.next_fails() {
             return Err(SinkError::Failed);
         }
         match self.bytes.extend(piece) {

@@ -5,6 +5,7 @@ ghost use Rattle.mt_outside.specs.Faults.{Rose, one_more};
 ghost use Rattle.mt_outside.specs.Memory.{next_call};
 ghost use Rattle.mt_outside.specs.Told.{Told, Takes};
 
+use super::calls::Calls;
 use mt_base::List;
 use std::marker::Model;
 
@@ -23,7 +24,8 @@ pub trait Source {
     /// Puts the next bytes at the front of `buf`, and answers how many. It answers 0 for a `buf` that is not empty only at the end.
     fn read(&mut self, buf: &mut [u8]) -> Result<usize, Failed>
         ensures within { IfOk result (λ n. n ≤ length buf.new) }
-        ensures told { IfOk result (λ n. Told (left self.old) (λ all. Takes all n buf.new (left self.new))) }
+        ensures told { IfOk result (λ n. Told (left self.old) (λ all.
+            Takes all n buf.new (left self.new))) }
         ensures kept { OnErr result (left self.new ≡ left self.old) }
         ensures rises { faults self.old ≤ faults self.new }
         ensures failed { OnErr result (Rose (faults self.old) (faults self.new)) };
@@ -34,9 +36,7 @@ pub trait Source {
 pub struct MemorySource {
     bytes: List<u8>,
     place: usize,
-    calls: u32,
-    fails: List<u32>,
-    faults: u64,
+    calls: Calls,
 }
 
 impl Model for MemorySource {
@@ -45,23 +45,26 @@ impl Model for MemorySource {
 
     ghost Value = { Reading };
 
-    ghost view = { λ s. record { left = drop s.place s.bytes; calls = s.calls; fails = s.fails; faults = s.faults } };
+    ghost view = { λ s. record {
+      left = drop s.place s.bytes;
+      calls = s.calls.number;
+      fails = s.calls.fails;
+      faults = s.calls.faults;
+    } };
 
     ghost invariant = { λ s. s.place ≤ length s.bytes };
 }
 
 impl MemorySource {
-    /// A source of these bytes, whose reads with these numbers fail. The first read has the number 1, and so has
-    /// each read from the 2^32 - 1st on that last number.
+    /// A source of these bytes, whose reads with these numbers fail. The first read has the number 1; the
+    /// number 2^32 - 1 is that of each read from that one on.
     pub fn new(bytes: List<u8>, fails: List<u32>) -> Self
         ensures { result ≡ record { left = bytes; calls = 0; fails = fails; faults = 0 } }
     {
         MemorySource {
             bytes,
             place: 0,
-            calls: 0,
-            fails,
-            faults: 0,
+            calls: Calls::new(fails),
         }
     }
 }
@@ -73,20 +76,17 @@ impl Source for MemorySource {
 
     fn read(&mut self, buf: &mut [u8]) -> Result<usize, Failed>
         ensures exactly { IsErr result ↔ Contains self.old.fails (next_call self.old.calls) }
-        ensures ok { IfOk result (λ n. self.new ≡ record self.old { left = drop n self.old.left; calls = next_call self.old.calls }) }
-        ensures err { OnErr result (self.new ≡ record self.old { calls = next_call self.old.calls; faults = one_more self.old.faults }) }
+        ensures ok { IfOk result (λ n. self.new ≡
+            record self.old { left = drop n self.old.left; calls = next_call self.old.calls }) }
+        ensures err { OnErr result (self.new ≡
+            record self.old { calls = next_call self.old.calls; faults = one_more self.old.faults }) }
         ensures count { IfOk result (λ n. n ≡ min (length self.old.left) (length buf.old)) }
         ensures buffer { IfOk result (λ n. buf.new ≡ take n self.old.left ++ drop n buf.old) }
         ensures untouched { OnErr result (buf.new ≡ buf.old) }
-        ensures within { IfOk result (λ n. n ≤ length buf.new) }
-        ensures told { IfOk result (λ n. Told (Some self.old.left) (λ all. Takes all n buf.new (Some self.new.left))) }
-        ensures kept { OnErr result (Some self.new.left ≡ Some self.old.left) }
         ensures rises { self.old.faults ≤ self.new.faults }
         ensures failed { OnErr result (Rose self.old.faults self.new.faults) }
     {
-        self.calls = self.calls.saturating_add(1);
-        if self.fails.as_slice().contains(&self.calls) {
-            self.faults = self.faults.saturating_add(1);
+        if self.calls.next_fails() {
             return Err(Failed);
         }
         let rest = &self.bytes.as_slice()[self.place..];
