@@ -3,10 +3,12 @@
 //! Contracts see a `Value` as its bytes, a `List` as the list of its items, and `Steps` as a number.
 #![tactic(auto)]
 
+mod lines;
 mod list;
 mod steps;
 mod value;
 
+pub use lines::Lines;
 pub use list::List;
 use std::alloc::{AllocError, AllocFailed};
 pub use steps::Steps;
