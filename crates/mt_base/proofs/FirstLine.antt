@@ -1,6 +1,6 @@
 -- The first of the lines, by where the first line feed is.
-use Rattle.std.proofs.Common.{◌≡◌, ℕ, ◌+◌, ◌-◌, ◌<◌, false, ◌==◌, List, [], ◌∷◌, ◌++◌, length, take, drop, get_or, refl, sym, ◌∙◌, ap, arith, length-take, eqb-true, if◌then◌else◌}
-use Rattle.std.specs.List.{All, slice_split}
+use Rattle.std.proofs.Common.{◌≡◌, ℕ, ◌+◌, ◌-◌, ◌<◌, ◌≤◌, Bool, true, false, ◌==◌, List, [], ◌∷◌, ◌++◌, length, take, drop, get_or, refl, sym, ◌∙◌, ap, arith, length-take, eqb-true, if◌then◌else◌}
+use Rattle.std.specs.List.{All, slice_split, onto_first}
 use Rattle.std.specs.Str.Lines.{lines, lines_of_parts, strip_carriage_return}
 use Rattle.std.proofs.lemmas.Bool.{false_from_ne_true}
 use Rattle.std.proofs.lemmas.Grind.{common_steps}
@@ -48,3 +48,22 @@ one_part xs some = ap (λ b. if b then [] else xs ∷ []) (false_from_ne_true (l
 pub only : (xs : List ℕ) → 0 < length xs → Nowhere (Passes (is_byte 10) xs) 0 (length xs) → lines xs ≡ xs ∷ lines (take (length xs - length xs) (drop (length xs) xs))
 only xs some none = ap lines_of_parts (slice_split_none (λ b. b == 10) xs (no_feed_at_all xs none))
     ∙ one_part xs some ∙ ap (λ (r : List ℕ). xs ∷ lines r) (sym (nothing_left xs))
+
+-- a byte more in the first part is at most a line more
+one_more : (x : ℕ) (parts : List (List ℕ)) → length (lines_of_parts (onto_first x parts)) ≤ length (lines_of_parts parts) + 1
+one_more x [] = omega arith
+one_more x (part ∷ []) = omega (arith, ap length (one_part (x ∷ part) (omega arith)))
+one_more x (part ∷ next ∷ more) = omega arith
+
+one_byte_more : (ends : Bool) (b : ℕ) (parts : List (List ℕ)) → 0 < length parts →
+    length (lines_of_parts (if ends then [] ∷ parts else onto_first b parts)) ≤ length (lines_of_parts parts) + 1
+one_byte_more true b parts some = rw (two_parts [] parts some) (omega arith)
+one_byte_more false b parts some = one_more b parts
+
+-- there are no more lines than bytes
+pub length-lines : (bs : List ℕ) → length (lines bs) ≤ length bs
+length-lines [] = omega arith
+length-lines (b ∷ bs) =
+    let parts : List (List ℕ) = slice_split (λ b. b == 10) bs in
+    let some : 0 < length parts = omega (arith, length-slice_split (λ b. b == 10) bs) in
+    omega (arith, one_byte_more (b == 10) b parts some, length-lines bs)

@@ -1,6 +1,6 @@
 //! The lines of a file, a body or any bytes.
 
-ghost use Rattle.std.specs.Prelude.{◌≡◌, ◌<◌, ℕ, ◌∷◌, List, length};
+ghost use Rattle.std.specs.Prelude.{◌≡◌, ◌<◌, ◌≤◌, ℕ, ◌∷◌, List, length};
 ghost use Rattle.std.specs.Iterator.{YieldsFirstRef, item_count};
 ghost use Rattle.std.specs.Str.Lines.{lines, strip_carriage_return};
 
@@ -26,7 +26,8 @@ impl<'a> Model for Lines<'a> {
 impl<'a> Lines<'a> {
     /// The lines of these bytes.
     pub fn new(bytes: &'a [u8]) -> Self
-        ensures { result ≡ lines bytes.now }
+        ensures value { result ≡ lines bytes.now }
+        ensures count { length result ≤ length bytes.now }
     {
         Lines { rest: bytes }
     }
