@@ -67,3 +67,72 @@ fn token_of(alloc: Global, line: &[u8]) -> Result<Token, NoMemory>
     values.push(Value::new(alloc, word)?)?;
     Ok(Token::new(values))
 }
+
+#[cfg(test)]
+mod tests {
+    use super::*;
+
+    #[test]
+    fn reads_texts(rt: HostRuntime) {
+        let cases: [(&[u8], &[&str]); 5] = [
+            (b"", &[]),
+            (b"the\ncat\nsat\n", &["the", "cat", "sat"]),
+            (b"the\r\ncat\r\n", &["the", "cat"]),
+            (b"the\ncat", &["the", "cat"]),
+            (b"7", &["7"]),
+        ];
+        for (body, words) in cases {
+            let read = read_text(rt.alloc(), "t1", body);
+            assert!(rt; has_words(&read, words), "at {body:?}");
+        }
+    }
+
+    fn has_words(read: &Result<Text, TextError>, words: &[&str]) -> bool {
+        match read {
+            Ok(text) => {
+                text.name().as_str() == "t1"
+                    && text.len() == words.len()
+                    && text.is_empty() == words.is_empty()
+                    && text
+                        .tokens()
+                        .as_slice()
+                        .iter()
+                        .zip(words.iter())
+                        .all(|(token, word)| has_word(token, word))
+            }
+            Err(_) => false,
+        }
+    }
+
+    fn has_word(token: &Token, word: &str) -> bool {
+        let values = token.values();
+        values.len() == 1 && values.get(0).as_str() == word
+    }
+
+    #[test]
+    fn refuses_the_first_bad_line(rt: HostRuntime) {
+        let cases: [(&[u8], usize); 10] = [
+            (b"\n", 1),
+            (b"the\n\ncat\n", 2),
+            (b"the\ncat", 0),
+            (b"the\ncat_flap\nsat down\n", 2),
+            (b"the\ncat\r", 2),
+            (b"the\ncat\r\r\n", 2),
+            (b"x\n<s>\n", 2),
+            (b"x\n\xff\n", 2),
+            (&[b'z'; 1024], 0),
+            (&[b'z'; 1025], 1),
+        ];
+        for (body, line) in cases {
+            let read = read_text(rt.alloc(), "t1", body);
+            assert_eq!(rt; bad_line(&read), line, "at {body:?}");
+        }
+    }
+
+    fn bad_line(read: &Result<Text, TextError>) -> usize {
+        match read {
+            Err(TextError::NotBuilt(line)) => *line,
+            _ => 0,
+        }
+    }
+}
