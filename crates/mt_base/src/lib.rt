@@ -1,15 +1,20 @@
-//! Values, lists and counters of steps: the small types that every crate of the engine uses.
+//! Values, lists, texts, lines and counters of steps: the small types that every crate of the engine uses.
 //!
-//! Contracts see a `Value` as its bytes, a `List` as the list of its items, and `Steps` as a number.
+//! Contracts see a `Value` as its bytes, a `List` as the list of its items, a `Text` as the record of `mt_text_spec`, `Lines` as the
+//! list of lines to come, and `Steps` as a number.
 #![tactic(auto)]
 
+mod lines;
 mod list;
 mod steps;
+mod text;
 mod value;
 
+pub use lines::Lines;
 pub use list::List;
 use std::alloc::{AllocError, AllocFailed};
 pub use steps::Steps;
+pub use text::{Text, Token};
 pub use value::Value;
 
 /// Want of memory: the one answer that any call which takes memory may give at any time.
@@ -35,5 +40,6 @@ pub fn are_shared<T: Send + Sync>() {
     shared::<Value>();
     shared::<List<T>>();
     shared::<List<Value>>();
+    shared::<Text>();
     shared::<NoMemory>();
 }
