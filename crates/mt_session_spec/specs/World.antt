@@ -1,8 +1,8 @@
 -- What a command means: the world before it and after it, and the reply.
-use Rattle.std.specs.Prelude.{ℕ, ◌≡◌, ◌+◌, ◌<◌, nat_eq, List, [], ◌∷◌, ◌++◌, length, codes, count_by}
+use Rattle.std.specs.Prelude.{ℕ, ◌≡◌, ◌+◌, ◌<◌, List, [], ◌∷◌, ◌++◌, length, codes, count_by}
 use Rattle.std.specs.List.{AllPass, Any}
 use Rattle.std.specs.Char.{is_ascii_alphanumeric}
-use Rattle.std.specs.Cmp.Lexicographic.{pointwise}
+use Rattle.std.specs.Str.{bytes_eq}
 use Rattle.std.specs.Fmt.{decimal}
 use Rattle.mt_text_spec.specs.Lines.{closed}
 use Rattle.mt_text_spec.specs.Texts.{Token, Text, value_of, tokens_of}
@@ -33,7 +33,7 @@ pub record IsLiteral (cql value : List ℕ) : Type 0 where
 
 -- how many tokens of the corpus have this word
 abbrev pub occurrences : List Text → List ℕ → ℕ
-occurrences corpus value = count_by (λ token. pointwise nat_eq (value_of token 0) value) (tokens_of corpus)
+occurrences corpus value = count_by (λ token. bytes_eq (value_of token 0) value) (tokens_of corpus)
 
 -- Why a command is refused.
 pub data Refusal : Type 0 where
