@@ -1,2 +1,4 @@
 pub mod Literals
 pub mod Meanings
+pub mod Talks
+pub mod Runs

@@ -1,9 +1,11 @@
 -- How far a run has come.
-use Rattle.std.specs.Prelude.{ℕ, ◌≡◌, Bool, true, List, [], ◌∷◌, ◌++◌, Option, Some}
-use Rattle.mt_session_spec.specs.Script.{Item, Begins}
-use Rattle.mt_session_spec.specs.World.{World, first_world}
+use Rattle.std.specs.Prelude.{ℕ, ◌≡◌, Bool, List, ◌++◌, Option, Some, None}
+use Rattle.mt_session_spec.specs.Script.{Item, Given, Bad, CutShort, Begins}
+use Rattle.mt_session_spec.specs.World.{World}
 use Rattle.mt_session_spec.specs.Replies.{ItemStep, Replies}
-use Rattle.mt_script.specs.Waits.{Waiting}
+use Rattle.mt_script.specs.Seen.{command_of}
+use Rattle.mt_script.specs.declared.command.Next.{Next}
+use Rattle.mt_script.specs.declared.command.Next.TheVariants.{Command as NextCommand, Bad as NextBad, CutShort as NextCutShort, More as NextMore, End as NextEnd, NoMemory as NextNoMemory}
 
 -- One item was answered: the bytes that the sink holds went on with its reply.
 pub record Replied (old : World) (item : Item) (new : World) (before : List ℕ) (after : Option (List ℕ)) : Type 0 where
@@ -37,3 +39,28 @@ pub record ProgressInPart (ended : Bool) (bytes : List ℕ) (old : World) (befor
   pub taken : Begins ended bytes items others
   pub replies : Replies items old (output ++ unwritten) new
   pub written : after ≡ Some (before ++ output)
+
+-- A front of the piece was written.
+pub record WroteFront (piece before : List ℕ) (after : Option (List ℕ)) : Type 0 where
+  pub front : List ℕ
+  pub unwritten : List ℕ
+  pub are : piece ≡ front ++ unwritten
+  pub written : after ≡ Some (before ++ front)
+
+-- The item that comes next, or none where no whole item is left or memory was wanted.
+abbrev pub item_of : Next → Option Item
+item_of (NextCommand command) = Some (Given (command_of command))
+item_of NextBad = Some Bad
+item_of NextCutShort = Some CutShort
+item_of NextMore = None
+item_of NextEnd = None
+item_of NextNoMemory = None
+
+-- no whole item is left
+abbrev pub IsLast : Next → Type 0
+IsLast (NextCommand command) = ⊥
+IsLast NextBad = ⊥
+IsLast NextCutShort = ⊥
+IsLast NextMore = Unit {0}
+IsLast NextEnd = Unit {0}
+IsLast NextNoMemory = ⊥

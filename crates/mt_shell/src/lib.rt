@@ -4,5 +4,9 @@
 mod literal;
 mod refusal;
 mod session;
+mod talk;
+mod top;
+mod writes;
 
 pub use session::{Reply, Session};
+pub use top::{Status, run};

@@ -7,13 +7,20 @@ ghost use Rattle.mt_shell.specs.Refusals.{refusal_of};
 use mt_base::{List, NoMemory};
 use std::alloc::Global;
 
+/// The reply to a line that is no command.
+pub const BAD_COMMAND: &str = "! 10 BadCommand\n";
+
+/// The reply to a body that the input cuts short.
+pub const CUT_SHORT: &str = "! 11 CutShort\n";
+
+/// The reply to a command that wants memory.
+pub const NO_MEMORY: &str = "! 30 NoMemory\n";
+
 /// Why a command is refused.
 #[derive(Clone, Copy, Debug)]
 pub enum Refusal<'a> {
     /// The line is no command, or its query is of no form that is read yet.
     BadCommand,
-    /// The input ends inside the command's body.
-    CutShort,
     /// A text of this name is held.
     NameTaken(&'a str),
     /// The line of this number, from 1, is not plain.
@@ -32,8 +39,7 @@ impl Refusal<'_> {
         ensures { IfOk result (λ text. string_bytes text ≡ refusal_line (refusal_of self.now)) }
     {
         match self {
-            Refusal::BadCommand => Ok(String::from_str(alloc, "! 10 BadCommand\n")?),
-            Refusal::CutShort => Ok(String::from_str(alloc, "! 11 CutShort\n")?),
+            Refusal::BadCommand => Ok(String::from_str(alloc, BAD_COMMAND)?),
             Refusal::NameTaken(name) => Ok(format!(in alloc; "! 13 NameTaken {name}\n")?),
             Refusal::NotBuilt(line) => Ok(format!(in alloc; "! 17 BadVertical {line} NotBuilt\n")?),
         }

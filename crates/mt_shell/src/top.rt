@@ -1,0 +1,71 @@
+//! The run of a whole script.
+
+ghost use Rattle.std.specs.Prelude.{◌≡◌, ◌≢◌, ◌≤◌, ◌<◌, ◌⊎◌, ◌↔◌, [], List, String, length, Some};
+ghost use Rattle.mt_outside.specs.Told.{Told};
+ghost use Rattle.mt_outside.specs.Faults.{Rose};
+ghost use Rattle.mt_session_spec.specs.Runs.{script_limit, EndsWell, EndsWithFault, EndsTooLong, EndsInPart};
+ghost use Rattle.mt_shell.specs.Words.{AreGood};
+
+use super::talk::Talk;
+use mt_outside::{Failed, Sink, SinkError, Source};
+use std::alloc::Global;
+
+/// How a run ended.
+#[derive(Clone, Copy, Debug, PartialEq, Eq, Drop)]
+pub enum Status {
+    /// The script was read to its end, and every reply was written.
+    Done,
+    /// The words of the command line are not good. Nothing was read or written.
+    Usage,
+    /// The source failed.
+    SourceFault,
+    /// The sink failed.
+    SinkFault,
+    /// The script has more bytes than a script may have.
+    ScriptTooLong,
+    /// Memory was wanted.
+    NoMemory,
+}
+
+/// The most bytes of a script.
+pub const SCRIPT_LIMIT: usize = 268_435_456;
+
+/// So many bytes are read at once.
+const BLOCK: usize = 65_536;
+
+/// Answers the script that the source gives, and writes each reply before more is read.
+///
+/// The words are those of the command line behind the program's name.
+pub fn run<S: Source, K: Sink>(alloc: Global, words: &[String], source: &mut S, sink: &mut K) -> Status
+    // What is written is the replies to what is read.
+    ensures done { result ≡ Status.Done → Told (S.left source.old) (λ input. Told (K.held sink.old) (λ before.
+        EndsWell input (S.left source.new) before (K.held sink.new))) }
+
+    // Each other end has its cause, and says what is written then.
+    ensures usage { (result ≡ Status.Usage) ↔ (AreGood words.now → ⊥) }
+    ensures untouched { result ≡ Status.Usage → (source.new ≡ source.old) × (sink.new ≡ sink.old) }
+    ensures source_failed { result ≡ Status.SourceFault → Rose (S.faults source.old) (S.faults source.new) }
+    ensures source_fault { result ≡ Status.SourceFault → Told (S.left source.old) (λ input. Told (K.held sink.old) (λ before.
+        EndsWithFault input (S.left source.new) before (K.held sink.new))) }
+    ensures sink_failed { result ≡ Status.SinkFault → Rose (K.faults sink.old) (K.faults sink.new) }
+    ensures sink_fault { result ≡ Status.SinkFault → Told (S.left source.old) (λ input. Told (K.held sink.old) (λ before.
+        EndsInPart input (S.left source.new) before (K.held sink.new))) }
+    ensures is_long { result ≡ Status.ScriptTooLong → Told (S.left source.old) (λ input. script_limit < length input) }
+    ensures too_long { result ≡ Status.ScriptTooLong → Told (S.left source.old) (λ input. Told (K.held sink.old) (λ before.
+        EndsTooLong input (S.left source.new) before (K.held sink.new))) }
+    ensures no_memory { result ≡ Status.NoMemory → Told (S.left source.old) (λ input. Told (K.held sink.old) (λ before.
+        EndsInPart input (S.left source.new) before (K.held sink.new))) }
+
+    // With good words, no fault and a script that is not too long the run is done, or memory was wanted.
+    ensures complete { AreGood words.now → (Rose (S.faults source.old) (S.faults source.new) → ⊥) → (Rose (K.faults sink.old) (K.faults sink.new) → ⊥) →
+        Told (S.left source.old) (λ input. length input ≤ script_limit → (result ≡ Status.Done) ⊎ (result ≡ Status.NoMemory)) }
+    ensures short { result ≡ Status.Done → Told (S.left source.old) (λ input. length input ≤ script_limit) }
+{
+    if !words.is_empty() {
+        return Status::Usage;
+    }
+    let Ok(mut block) = vec![in alloc; 0; BLOCK] else {
+        return Status::NoMemory;
+    };
+    converse(&mut Talk::new(alloc), &mut block, source, sink)
+}
