@@ -2,3 +2,4 @@ pub mod Literals
 pub mod Meanings
 pub mod Talks
 pub mod Runs
+pub mod Endings

@@ -1,6 +1,5 @@
 -- What a session's replies mean.
-use Rattle.std.proofs.Common.{◌≡◌, ◌≢◌, ℕ, ◌+◌, ◌<◌, List, [], ◌∷◌, ◌++◌, length, arith, refl, sym, ◌∙◌, ap, codes, IsTrue, false}
-use Rattle.std.specs.List.{All}
+use Rattle.std.proofs.Common.{◌≡◌, ℕ, ◌<◌, List, [], ◌∷◌, ◌++◌, arith, refl, sym, codes, IsTrue, false}
 use Rattle.std.specs.Fmt.{decimal}
 use Rattle.std.proofs.lemmas.List.Elements.{All-same, recursion_from_All}
 use Rattle.std.specs.List.{AllByRecursion}
@@ -8,7 +7,7 @@ use Rattle.mt_text_spec.specs.Lines.{closed}
 use Rattle.mt_text_spec.specs.Texts.{Text}
 use Rattle.mt_text_spec.specs.Vertical.{Vertical, FirstNotPlain, IsPlain}
 use Rattle.mt_session_spec.specs.Commands.{Command, Text as TextCommand, Asks, Count}
-use Rattle.mt_session_spec.specs.World.{World, Holds, Refusal, BadCommand, CutShort, NameTaken, NotBuilt, rank, refusal_line, Refuses, IsRefused, Fine, Declined, Accepted, IsLiteral, with_text, occurrences}
+use Rattle.mt_session_spec.specs.World.{World, Holds, Refusal, BadCommand, CutShort, NameTaken, NotBuilt, rank, Refuses, IsRefused, Fine, Declined, Accepted, IsLiteral, occurrences}
 use Rattle.mt_shell.specs.declared.session.Reply.{Reply}
 use Rattle.mt_shell.specs.declared.session.Reply.TheVariants.{Lines, NoMemory}
 use Rattle.mt_shell.specs.Answers.{Answers, Keeps, Declines}

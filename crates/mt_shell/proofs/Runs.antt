@@ -1,8 +1,8 @@
 -- Parts of a run, one after another.
-use Rattle.std.proofs.Common.{◌≡◌, ◌≢◌, ℕ, ◌+◌, ◌<◌, ◌≤◌, ◌⊎◌, inl, inr, Bool, true, false, List, [], ◌∷◌, ◌++◌, length, Option, Some, None, arith, refl, sym, ◌∙◌, ap, append_assoc, append-nil, subst, MatchOption}
+use Rattle.std.proofs.Common.{◌≡◌, ◌≢◌, ℕ, ◌<◌, ◌≤◌, inl, inr, Bool, true, false, List, [], ◌∷◌, ◌++◌, length, Option, Some, None, arith, refl, sym, append_assoc, append-nil, subst, MatchOption}
 use Rattle.std.proofs.lemmas.Grind.{common_steps}
 use Rattle.mt_outside.specs.Told.{Told}
-use Rattle.mt_session_spec.specs.Script.{Item, Given, Bad, CutShort, ClosedLine, OpenLine, FirstLine, ClosedBody, OpenBody, Body, Whole, Commanded, Refused, Broken, Begins, Nothing, Skips, Then, IsRest}
+use Rattle.mt_session_spec.specs.Script.{Item, Given, Bad, CutShort, ClosedLine, FirstLine, Body, Whole, Commanded, Refused, Broken, Begins, Nothing, Skips, Then, IsRest}
 use Rattle.mt_session_spec.specs.World.{World}
 use Rattle.mt_session_spec.specs.Replies.{ItemStep, Replies}
 use Rattle.mt_script.specs.declared.command.Next.{Next}
@@ -40,12 +40,12 @@ one_more a b c item old mid new before at after p t told =
 pub and_rest : {ended : Bool} → (a b c : List ℕ) (old mid : World) (before : List ℕ) (at : Option (List ℕ)) → Progress ended a b old mid before at → Begins ended b [] c →
     Progress ended a c old mid before at
 and_rest a b c old mid before at p t = record {
-    items = p.items;
-    output = p.output;
-    taken = rw (← append-nil p.items) (then_begins a b c p.items [] p.taken t);
-    replies = p.replies;
-    written = p.written;
-  }
+  items = p.items;
+  output = p.output;
+  taken = rw (← append-nil p.items) (then_begins a b c p.items [] p.taken t);
+  replies = p.replies;
+  written = p.written;
+}
 
 -- one item more, whose reply was written in part
 pub one_in_part : {ended : Bool} → (a b c : List ℕ) (item : Item) (old mid : World) (before : List ℕ) (at after : Option (List ℕ)) → Progress ended a b old mid before at →
@@ -67,15 +67,15 @@ one_in_part a b c item old mid before at after p t told =
 pub none_in_part : {ended : Bool} → (a b : List ℕ) (old mid : World) (before : List ℕ) (at after : Option (List ℕ)) → Progress ended a b old mid before at → Told at (λ all. after ≡ Some all) →
     ProgressInPart ended a old before after
 none_in_part a b old mid before at after p told = record {
-    items = p.items;
-    others = b;
-    output = p.output;
-    unwritten = [];
-    new = mid;
-    taken = p.taken;
-    replies = rw append-nil p.replies;
-    written = told (before ++ p.output) p.written;
-  }
+  items = p.items;
+  others = b;
+  output = p.output;
+  unwritten = [];
+  new = mid;
+  taken = p.taken;
+  replies = rw append-nil p.replies;
+  written = told (before ++ p.output) p.written;
+}
 
 -- what next gives is its item
 pub gives_item : (ended : Bool) (old new : List ℕ) (next : Next) (item : Item) → Gives ended old next new → item_of next ≡ Some item → Begins ended old (item ∷ []) new

@@ -1,10 +1,9 @@
 -- What a talk has answered.
-use Rattle.std.proofs.Common.{◌≡◌, ℕ, Bool, true, false, List, [], ◌∷◌, ◌++◌, Option, Some, None, Result, Ok, Err, OnErr, refl, sym, ◌∙◌, ap, append_assoc, append-nil}
-use Rattle.mt_outside.specs.Told.{Told}
+use Rattle.std.proofs.Common.{◌≡◌, ℕ, List, ◌++◌, Option, Some, Result, Ok, Err, OnErr, sym, ◌∙◌, ap}
 use Rattle.mt_session_spec.specs.Commands.{Command}
-use Rattle.mt_session_spec.specs.Script.{Item, Given, Begins}
-use Rattle.mt_session_spec.specs.World.{World, Fine, Step, Meant, Starved, no_memory_line}
-use Rattle.mt_session_spec.specs.Replies.{ItemStep, Replies}
+use Rattle.mt_session_spec.specs.Script.{Item}
+use Rattle.mt_session_spec.specs.World.{World, Step, Starved, no_memory_line}
+use Rattle.mt_session_spec.specs.Replies.{ItemStep}
 use Rattle.mt_shell.specs.Reads.{Replied, RepliedInPart, WroteFront}
 
 -- a fact that holds holds after an error

@@ -1,4 +1,5 @@
 pub mod Refusals
-
 pub mod Answers
 pub mod Reads
+pub mod Words
+pub mod Ends

@@ -95,7 +95,10 @@ impl Session {
     fn holds(&self, name: &str) -> bool
         ensures { IsTrue result ↔ Holds self.now name.now }
     {
-        self.texts.as_slice().iter().any(|text| text.name().as_str() == name)
+        self.texts
+            .as_slice()
+            .iter()
+            .any(|text| text.name().as_str() == name)
     }
 
     /// `count`: the number of tokens with the query's word.

@@ -116,7 +116,11 @@ fn answer_item<K: Sink>(session: &mut Session, next: Next, sink: &mut K) -> Resu
 }
 
 /// Answers a command. Its reply is whole before its first byte is written.
-fn answer_command<K: Sink>(session: &mut Session, command: Command, sink: &mut K) -> Result<(), SinkError>
+fn answer_command<K: Sink>(
+    session: &mut Session,
+    command: Command,
+    sink: &mut K,
+) -> Result<(), SinkError>
     ensures ok { OnOk result (Told (K.held sink.old) (λ before.
         Replied session.old (Given (command_of command)) session.new before (K.held sink.new))) }
     ensures part { OnErr result (Told (K.held sink.old) (λ before.

@@ -1,10 +1,12 @@
 //! The run of a whole script.
 
-ghost use Rattle.std.specs.Prelude.{◌≡◌, ◌≢◌, ◌≤◌, ◌<◌, ◌⊎◌, ◌↔◌, [], List, String, length, Some};
+ghost use Rattle.std.specs.Prelude.{◌≡◌, ◌≢◌, ◌≤◌, ◌<◌, ◌⊎◌, ◌↔◌, [], length, false, IsTrue};
 ghost use Rattle.mt_outside.specs.Told.{Told};
 ghost use Rattle.mt_outside.specs.Faults.{Rose};
 ghost use Rattle.mt_session_spec.specs.Runs.{script_limit, EndsWell, EndsWithFault, EndsTooLong, EndsInPart};
+ghost use Rattle.mt_session_spec.specs.World.{first_world};
 ghost use Rattle.mt_shell.specs.Words.{AreGood};
+ghost use Rattle.mt_shell.specs.Ends.{EndsAs, HasCause, HasLength, FinishesAs, FinishCause};
 
 use super::talk::Talk;
 use mt_outside::{Failed, Sink, SinkError, Source};
@@ -36,7 +38,12 @@ const BLOCK: usize = 65_536;
 /// Answers the script that the source gives, and writes each reply before more is read.
 ///
 /// The words are those of the command line behind the program's name.
-pub fn run<S: Source, K: Sink>(alloc: Global, words: &[String], source: &mut S, sink: &mut K) -> Status
+pub fn run<S: Source, K: Sink>(
+    alloc: Global,
+    words: &[String],
+    source: &mut S,
+    sink: &mut K,
+) -> Status
     // What is written is the replies to what is read.
     ensures done { result ≡ Status.Done → Told (S.left source.old) (λ input. Told (K.held sink.old) (λ before.
         EndsWell input (S.left source.new) before (K.held sink.new))) }
@@ -61,11 +68,77 @@ pub fn run<S: Source, K: Sink>(alloc: Global, words: &[String], source: &mut S, 
         Told (S.left source.old) (λ input. length input ≤ script_limit → (result ≡ Status.Done) ⊎ (result ≡ Status.NoMemory)) }
     ensures short { result ≡ Status.Done → Told (S.left source.old) (λ input. length input ≤ script_limit) }
 {
-    if !words.is_empty() {
+    if !are_good(words) {
         return Status::Usage;
     }
     let Ok(mut block) = vec![in alloc; 0; BLOCK] else {
         return Status::NoMemory;
     };
     converse(&mut Talk::new(alloc), &mut block, source, sink)
+}
+
+/// Whether the words of the command line are good.
+fn are_good(words: &[String]) -> bool
+    ensures { IsTrue result ↔ AreGood words.now }
+{
+    words.is_empty()
+}
+
+/// Reads the script and answers it, up to its limit and one byte more.
+fn converse<S: Source, K: Sink>(
+    talk: &mut Talk,
+    block: &mut [u8],
+    source: &mut S,
+    sink: &mut K,
+) -> Status
+    requires reader { talk.old.reader ≡ record { bytes = []; ended = false } }
+    requires session { talk.old.session ≡ first_world }
+    requires block { length block.old ≡ BLOCK }
+    ensures ends { Told (S.left source.old) (λ input. Told (K.held sink.old) (λ before.
+        EndsAs result input (S.left source.new) before (K.held sink.new))) }
+    ensures cause { HasCause result (S.faults source.old) (S.faults source.new) (K.faults sink.old) (K.faults sink.new) }
+    ensures size { Told (S.left source.old) (λ input. HasLength result input) }
+{
+    let mut taken = 0;
+    while taken < SCRIPT_LIMIT {
+        let room = BLOCK.min(SCRIPT_LIMIT - taken);
+        let Ok(n) = source.read(&mut block[..room]) else {
+            return Status::SourceFault;
+        };
+        if n == 0 {
+            return finish(talk, sink);
+        }
+        match talk.take(&block[..n], sink) {
+            Ok(()) => taken += n,
+            Err(error) => return status_of(error),
+        }
+    }
+    match source.read(&mut block[..1]) {
+        Ok(0) => finish(talk, sink),
+        Ok(_) => Status::ScriptTooLong,
+        Err(Failed) => Status::SourceFault,
+    }
+}
+
+/// Answers what is left where the script has ended.
+fn finish<K: Sink>(talk: &mut Talk, sink: &mut K) -> Status
+    ensures ends { Told (K.held sink.old) (λ before.
+        FinishesAs result talk.old.reader.bytes talk.old.session talk.new.session before (K.held sink.new)) }
+    ensures cause { FinishCause result (K.faults sink.old) (K.faults sink.new) }
+{
+    match talk.finish(sink) {
+        Ok(()) => Status::Done,
+        Err(error) => status_of(error),
+    }
+}
+
+/// How a run ends where the sink took no more.
+fn status_of(error: SinkError) -> Status
+    ensures failed { error ≡ SinkError.Failed → result ≡ Status.SinkFault }
+    ensures starved { error ≡ SinkError.NoMemory → result ≡ Status.NoMemory }
+{
+    match error {
+        SinkError::Failed => Status::SinkFault,
+        SinkError::NoMemory => Status::NoMemory,
+    }
 }

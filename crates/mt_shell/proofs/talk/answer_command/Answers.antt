@@ -1,4 +1,3 @@
-use Rattle.std.proofs.Common.{refl, ◌∙◌}
 use Rattle.std.proofs.lemmas.Result.{on_ok_weaker, on_err_weaker}
 use Rattle.mt_session_spec.specs.Script.{Given}
 use Rattle.mt_session_spec.specs.World.{Meant, no_memory_line}
@@ -19,11 +18,11 @@ returns-in-Lines-clause-part g c = on_err_weaker c.write_all.result
 pub returns-in-NoMemory-clause-ok : goal.returns-in-NoMemory-clause-ok
 returns-in-NoMemory-clause-ok g c = on_ok_weaker c.write_all-in-NoMemory.result
     (λ t all h. whole_reply c.args.session.now c.step.new.self (Given (command_of c.args.command)) no_memory_line c.as_bytes.result.now all _
-        (starved c.args.session.now c.step.new.self _ c.in-NoMemory.ensures) c.as_bytes.ensures.value (t all h))
+    (starved c.args.session.now c.step.new.self _ c.in-NoMemory.ensures) c.as_bytes.ensures.value (t all h))
     c.write_all-in-NoMemory.ensures.ok
 
 pub returns-in-NoMemory-clause-part : goal.returns-in-NoMemory-clause-part
 returns-in-NoMemory-clause-part g c = on_err_weaker c.write_all-in-NoMemory.result
     (λ t all h. front_reply c.args.session.now c.step.new.self (Given (command_of c.args.command)) no_memory_line c.as_bytes.result.now all _
-        (starved c.args.session.now c.step.new.self _ c.in-NoMemory.ensures) c.as_bytes.ensures.value (t all h))
+    (starved c.args.session.now c.step.new.self _ c.in-NoMemory.ensures) c.as_bytes.ensures.value (t all h))
     c.write_all-in-NoMemory.ensures.part

@@ -20,10 +20,10 @@ loop-done-preserved g c = record {
 pub returns-in_err-done-clause-part : goal.returns-in_err-done-clause-part
 returns-in_err-done-clause-part g c =
     let told : Told (g.K.Sink.held c.args.sink.now) (λ all. WroteFront c.args.piece.now all (g.K.Sink.held c.write.new.self)) =
-        λ all h. record {
-          front = take c.loop-done.done c.args.piece.now;
-          unwritten = drop c.loop-done.done c.args.piece.now;
-          are = sym (take-append-drop c.loop-done.done c.args.piece.now);
-          written = c.in_err-done.ensures.kept ∙ c.loop-done.invariant.told all h;
-        } in
+    λ all h. record {
+      front = take c.loop-done.done c.args.piece.now;
+      unwritten = drop c.loop-done.done c.args.piece.now;
+      are = sym (take-append-drop c.loop-done.done c.args.piece.now);
+      written = c.in_err-done.ensures.kept ∙ c.loop-done.invariant.told all h;
+    } in
     always c.from_residual.result told

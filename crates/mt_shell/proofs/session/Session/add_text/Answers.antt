@@ -1,5 +1,4 @@
 use Rattle.std.proofs.Common.{◌∙◌, ap, refl, Err}
-use Rattle.mt_session_spec.specs.World.{Holds}
 use Rattle.mt_shell.proofs.Meanings.{taken, not_plain, kept, not_true}
 use Rattle.mt_shell.proofs.session.Session.add_text.Goals as goal
 

@@ -5,6 +5,6 @@ use Rattle.mt_shell.proofs.session.Session.occurrences.Given as goal
 
 abbrev pub invariant-loop-text : goal.invariant-loop-text
 invariant-loop-text l = record {
-    counted : l.total ≡ occurrences (take l.text-index l.text-items) l.word;
-    bound : l.total ≤ l.text-index * 2 ^ 64;
-  }
+  counted : l.total ≡ occurrences (take l.text-index l.text-items) l.word;
+  bound : l.total ≤ l.text-index * 2 ^ 64;
+}

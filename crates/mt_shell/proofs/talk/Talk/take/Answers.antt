@@ -10,12 +10,12 @@ returns-in-Ok-clause-part g c = rw (c.in-Ok.ensures.ok, c.requires) at c.answer.
 
 pub returns-in-Err-clause-part : goal.returns-in-Err-clause-part
 returns-in-Err-clause-part g c = λ before h. record {
-    items = [];
-    others = c.args.self.now.reader.bytes ++ c.args.piece.now;
-    output = [];
-    unwritten = [];
-    new = c.args.self.now.session;
-    taken = Nothing (c.args.self.now.reader.bytes ++ c.args.piece.now);
-    replies = (refl, refl);
-    written = rw (append-nil before) h;
-  }
+  items = [];
+  others = c.args.self.now.reader.bytes ++ c.args.piece.now;
+  output = [];
+  unwritten = [];
+  new = c.args.self.now.session;
+  taken = Nothing (c.args.self.now.reader.bytes ++ c.args.piece.now);
+  replies = (refl, refl);
+  written = rw (append-nil before) h;
+}
