@@ -1,0 +1,101 @@
+use super::sources::{LineFeeds, OneByte};
+use mt_base::List;
+use mt_outside::{MemorySink, MemorySource};
+use mt_shell::{Status, run};
+use std::alloc::{AllocError, Global};
+use std::test::Fail;
+
+/// The script of the first example, and its replies.
+const FIRST: &str = "text a 3\nthe\ncat\nthe\ncount [word==\"the\"]\n";
+const FIRST_REPLIES: &str = "ok 3\n= 2\n";
+
+/// Scripts with their replies. Each ends well.
+const SCRIPTS: [(&str, &str); 16] = [
+    ("", ""),
+    (FIRST, FIRST_REPLIES),
+    ("text a 3\nthe\n", "! 11 CutShort\n"),
+    ("text a 1", "! 11 CutShort\n"),
+    ("text a 0", "ok 0\n"),
+    ("text a 1\nx\ntext a 1\nquit\ncount [word==\"x\"]\n", "ok 1\n! 13 NameTaken a\n= 1\n"),
+    ("text a 2\nx\n<s>\ncount [word==\"x\"]\n", "! 17 BadVertical 2 NotBuilt\n= 0\n"),
+    ("text a 2\r\nx\r\nx\r\ncount [word==\"x\"]\r\n", "ok 2\n= 2\n"),
+    ("text a 1\nx\ncount [word==\"x\"]", "ok 1\n= 1\n"),
+    ("count [word==\"x\"]\r", "! 10 BadCommand\n"),
+    ("text a 1\nx\r", "ok 1\n"),
+    ("\n# skipped\n\n#\r\n", ""),
+    ("text  a 1\nx\n", "! 10 BadCommand\n! 10 BadCommand\n"),
+    ("text a 01\ntext a 1 \ntext -a 1\ntext a +1\n", "! 10 BadCommand\n! 10 BadCommand\n! 10 BadCommand\n! 10 BadCommand\n"),
+    ("count [word==\"\"]\ncount [word==\"x\" ]\ncount [word=\"x\"]\n", "! 10 BadCommand\n! 10 BadCommand\n! 10 BadCommand\n"),
+    ("text a 2\nx\n\ntext b 2\nx\nx", "! 17 BadVertical 2 NotBuilt\nok 2\n"),
+];
+
+fn bytes(alloc: Global, text: &[u8]) -> Result<List<u8>, AllocError> {
+    Ok(List::from_vec(Vec::from_slice(alloc, text)?))
+}
+
+fn calls(alloc: Global, numbers: &[u32]) -> Result<List<u32>, AllocError> {
+    Ok(List::from_vec(Vec::from_slice(alloc, numbers)?))
+}
+
+/// Runs the script with these reads and these writes failing, and gives the status and what was written.
+fn ran(alloc: Global, script: &[u8], reads: &[u32], writes: &[u32]) -> Result<(Status, MemorySink), AllocError> {
+    let mut source = MemorySource::new(bytes(alloc, script)?, calls(alloc, reads)?);
+    let mut sink = MemorySink::new(alloc, calls(alloc, writes)?);
+    let status = run(alloc, &[], &mut source, &mut sink);
+    Ok((status, sink))
+}
+
+#[test]
+fn scripts_have_their_replies(rt: HostRuntime) -> Result<(), Fail> {
+    for (script, replies) in SCRIPTS {
+        let (status, sink) = ran(rt.alloc(), script.as_bytes(), &[], &[])?;
+        assert_eq!(rt; status, Status::Done);
+        assert_eq!(rt; sink.written().as_slice(), replies.as_bytes());
+
+        let mut pieces = OneByte { rest: script.as_bytes() };
+        let mut sink = MemorySink::new(rt.alloc(), List::new(rt.alloc()));
+        assert_eq!(rt; run(rt.alloc(), &[], &mut pieces, &mut sink), Status::Done);
+        assert_eq!(rt; sink.written().as_slice(), replies.as_bytes());
+    }
+    Ok(())
+}
+
+#[test]
+fn each_read_and_each_write_fails(rt: HostRuntime) -> Result<(), Fail> {
+    for (read, replies) in [(1, ""), (2, FIRST_REPLIES)] {
+        let (status, sink) = ran(rt.alloc(), FIRST.as_bytes(), &[read], &[])?;
+        assert_eq!(rt; status, Status::SourceFault);
+        assert_eq!(rt; sink.written().as_slice(), replies.as_bytes());
+    }
+    let (status, _) = ran(rt.alloc(), FIRST.as_bytes(), &[3], &[])?;
+    assert_eq!(rt; status, Status::Done);
+    for (write, replies) in [(1, ""), (2, "ok 3\n")] {
+        let (status, sink) = ran(rt.alloc(), FIRST.as_bytes(), &[], &[write])?;
+        assert_eq!(rt; status, Status::SinkFault);
+        assert_eq!(rt; sink.written().as_slice(), replies.as_bytes());
+    }
+    let (status, _) = ran(rt.alloc(), FIRST.as_bytes(), &[], &[3])?;
+    assert_eq!(rt; status, Status::Done);
+    Ok(())
+}
+
+#[test]
+fn a_word_is_usage(rt: HostRuntime) -> Result<(), Fail> {
+    let words = vec![in rt.alloc(); String::from_str(rt.alloc(), "--workers")?]?;
+    let mut source = MemorySource::new(bytes(rt.alloc(), FIRST.as_bytes())?, List::new(rt.alloc()));
+    let mut sink = MemorySink::new(rt.alloc(), List::new(rt.alloc()));
+    assert_eq!(rt; run(rt.alloc(), &words, &mut source, &mut sink), Status::Usage);
+    assert!(rt; sink.written().is_empty());
+    Ok(())
+}
+
+#[test]
+fn a_script_has_a_greatest_length(rt: HostRuntime) -> Result<(), Fail> {
+    for (left, status) in [(268_435_456, Status::Done), (268_435_457, Status::ScriptTooLong)] {
+        let mut source = LineFeeds { left };
+        let mut sink = MemorySink::new(rt.alloc(), List::new(rt.alloc()));
+        assert_eq!(rt; run(rt.alloc(), &[], &mut source, &mut sink), status);
+        assert!(rt; sink.written().is_empty());
+    }
+    Ok(())
+}
