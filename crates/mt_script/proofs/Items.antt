@@ -7,7 +7,7 @@ use Rattle.std.proofs.lemmas.Grind.{common_steps}
 use Rattle.std.proofs.lemmas.List.{take-append-drop}
 use Rattle.std.proofs.lemmas.List.Elements.{All-nil, All-push, All-from_get_or}
 use Rattle.mt_text_spec.specs.Lines.{IsLine, Block, closed}
-use Rattle.mt_session_spec.specs.Commands.{Header, body_lines, with_body, IsHeader, IsSkipped}
+use Rattle.mt_session_spec.specs.Commands.{Command, Header, body_lines, WithBody, IsHeader, IsSkipped}
 use Rattle.mt_session_spec.specs.Script.{Item, Given, Bad, CutShort, ClosedLine, OpenLine, Whole, Commanded, Refused, Broken, Begins, Nothing, Skips, Then, IsRest}
 use Rattle.mt_script.specs.Places.{NoFeed, LineAt}
 use Rattle.mt_script.specs.Scans.{Opened}
@@ -158,14 +158,14 @@ front_of b raw front rest body line e s t =
     ap (λ s. take (line - body) s) (rest_of b raw front rest body e s) ∙ ap (λ n. take n (front ++ rest)) n ∙ take-append_seam front rest
 
 -- the whole command
-pub command_item : {ended : Bool} → (b : List ℕ) (header : Header) (body line missing : ℕ) → Opened b header body line missing → missing ≡ 0 →
-    Begins ended b (Given (with_body header (slice_range b body line)) ∷ []) (drop line b)
-command_item b header body line missing o z =
+pub command_item : {ended : Bool} → (b : List ℕ) (header : Header) (body line missing : ℕ) (command : Command) → Opened b header body line missing → missing ≡ 0 →
+    WithBody header (slice_range b body line) command → Begins ended b (Given command ∷ []) (drop line b)
+command_item b header body line missing command o z whole =
     let count : o.got + missing ≡ body_lines header = o.count in
     let all : o.got ≡ body_lines header = omega arith in
     let lines : Block (body_lines header) o.front = let P : ℕ → Type 0 = λ n. Block n o.front in subst P all o.lines in
-    rw (front_of b o.raw o.front (drop line b) body line o.are o.body_at o.line_at)
-    (one_item b (drop line b) _ (Commanded _ _ header o.front (drop line b) (inl (opened_line b header body line missing o)) o.stays o.good (inl (record { are = refl; lines = lines }))))
+    let made : WithBody header o.front command = subst (λ s. WithBody header s command) (front_of b o.raw o.front (drop line b) body line o.are o.body_at o.line_at) whole in
+    one_item b (drop line b) _ (Commanded _ _ header o.front command (drop line b) (inl (opened_line b header body line missing o)) o.stays o.good (inl (record { are = refl; lines = lines })) made)
 
 -- its body has not come to its end
 pub lacks_body : (b : List ℕ) (header : Header) (body line missing : ℕ) → Opened b header body line missing → 0 < missing → NoFeed b line (length b) → IsRest false b
@@ -198,11 +198,11 @@ cut_item b header body line missing o some none last =
     }))
 
 -- the input ends with the last line of its body
-pub last_item : (b : List ℕ) (header : Header) (body line missing : ℕ) → Opened b header body line missing → missing ≡ 1 → NoFeed b line (length b) → drop line b ≢ [] →
-    Begins true b (Given (with_body header (closed (drop body b))) ∷ []) []
-last_item b header body line missing o one none some =
+pub last_item : (b : List ℕ) (header : Header) (body line missing : ℕ) (command : Command) → Opened b header body line missing → missing ≡ 1 → NoFeed b line (length b) → drop line b ≢ [] →
+    WithBody header (closed (drop body b)) command → Begins true b (Given command ∷ []) []
+last_item b header body line missing command o one none some whole =
     let count : o.got + missing ≡ body_lines header = o.count in
-    one_item b [] _ (Commanded _ _ header (closed (drop body b)) [] (inl (opened_line b header body line missing o)) o.stays o.good (inr (record {
+    one_item b [] _ (Commanded _ _ header (closed (drop body b)) command [] (inl (opened_line b header body line missing o)) o.stays o.good (inr (record {
       last = refl;
       front = o.front;
       line = drop line b;
@@ -214,7 +214,7 @@ last_item b header body line missing o one none some =
       count = omega arith;
       is = ap closed (rest_of b o.raw o.front (drop line b) body o.are o.body_at);
       nothing = refl;
-    })))
+    })) whole)
 
 -- ## The end of the input
 
@@ -228,10 +228,11 @@ skipped_last (x ∷ xs) one s = Skips (x ∷ xs) (x ∷ xs) [] [] [] (inr (recor
 pub bad_last : (b : List ℕ) → IsLine b → (IsSkipped b → ⊥) → ((header : Header) → IsHeader b header → ⊥) → Begins true b (Bad ∷ []) []
 bad_last b one stays none = one_item b [] Bad (Refused b [] (inr (last_line b one stays)) stays none)
 
-pub command_last : (b : List ℕ) (header : Header) → IsLine b → (IsSkipped b → ⊥) → IsHeader b header → body_lines header ≡ 0 → Begins true b (Given (with_body header []) ∷ []) []
-command_last b header one stays good none =
+pub command_last : (b : List ℕ) (header : Header) (command : Command) → IsLine b → (IsSkipped b → ⊥) → IsHeader b header → body_lines header ≡ 0 → WithBody header [] command →
+    Begins true b (Given command ∷ []) []
+command_last b header command one stays good none whole =
     let lines : Block (body_lines header) [] = rw none no_lines in
-    one_item b [] _ (Commanded b [] header [] [] (inr (last_line b one stays)) stays good (inl (record { are = refl; lines = lines })))
+    one_item b [] _ (Commanded b [] header [] command [] (inr (last_line b one stays)) stays good (inl (record { are = refl; lines = lines })) whole)
 
 pub cut_last : (b : List ℕ) (header : Header) → IsLine b → (IsSkipped b → ⊥) → IsHeader b header → 0 < body_lines header → Begins true b (CutShort ∷ []) []
 cut_last b header one stays good some =

@@ -1,4 +1,9 @@
 pub mod Finding
-pub mod Words
+pub mod Forms
+pub mod AskForms
+pub mod HeadForms
+pub mod LineForms
+pub mod BatchSteps
+pub mod OneReading
 pub mod Items
 pub mod ScanSteps

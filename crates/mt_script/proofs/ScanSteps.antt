@@ -5,7 +5,7 @@ use Rattle.std.proofs.lemmas.List.{drop-append-le}
 use Rattle.std.proofs.lemmas.Grind.{common_steps}
 use Rattle.std.specs.Str.Lines.{strip_carriage_return}
 use Rattle.mt_text_spec.specs.Lines.{IsLine, closed}
-use Rattle.mt_session_spec.specs.Commands.{Header, body_lines, with_body, IsHeader, IsSkipped}
+use Rattle.mt_session_spec.specs.Commands.{Command, Header, body_lines, WithBody, IsHeader, IsSkipped}
 use Rattle.mt_session_spec.specs.Script.{Item, Given, Bad, CutShort, Begins, Nothing, IsRest}
 use Rattle.mt_script.specs.declared.header.Header.{Header as RustHeader}
 use Rattle.mt_script.specs.Headers.{header_of}
@@ -52,10 +52,11 @@ opens_more (Some header) b body line end missing fewer some o l e = body_more b 
 
 -- the command of the header that is open
 pub command_here : {ended : Bool} → (was : Option RustHeader) (header : RustHeader) (b new bytes : List ℕ) (body line missing : ℕ) → was ≡ Some header → Opens was b body line missing → missing ≡ 0 →
-    bytes ≡ slice_range b body line → new ≡ drop line b → Begins ended b (Given (with_body (header_of header) bytes) ∷ []) new
-command_here was header b new bytes body line missing e o z s n =
+    bytes ≡ slice_range b body line → new ≡ drop line b → (command : Command) → WithBody (header_of header) bytes command → Begins ended b (Given command ∷ []) new
+command_here was header b new bytes body line missing e o z s n command whole =
     let p : Opens (Some header) b body line missing = rw e at o in
-    rw (s, n) (command_item b (header_of header) body line missing p z)
+    let made : WithBody (header_of header) (slice_range b body line) command = subst (λ t. WithBody (header_of header) t command) s whole in
+    rw n (command_item b (header_of header) body line missing command p z made)
 
 pub some_too : (new old : Option RustHeader) → new ≡ old → IsSome old → IsSome new
 some_too new old e s = rw e s
@@ -87,10 +88,11 @@ not_nothing b line low ne e = ne (let long : length (drop line b) ≡ 0 = ap len
 
 -- the input ends with the last line of the body of the header that is open
 pub last_here : (was : Option RustHeader) (header : RustHeader) (b new bytes : List ℕ) (body line missing : ℕ) → was ≡ Some header → Opens was b body line missing → missing ≡ 1 →
-    NoFeed b line (length b) → line ≤ length b → line ≢ length b → bytes ≡ closed (drop body b) → new ≡ [] → Begins true b (Given (with_body (header_of header) bytes) ∷ []) new
-last_here was header b new bytes body line missing e o m none low ne s n =
+    NoFeed b line (length b) → line ≤ length b → line ≢ length b → bytes ≡ closed (drop body b) → new ≡ [] → (command : Command) → WithBody (header_of header) bytes command → Begins true b (Given command ∷ []) new
+last_here was header b new bytes body line missing e o m none low ne s n command whole =
     let p : Opens (Some header) b body line missing = rw e at o in
-    rw (s, n) (last_item b (header_of header) body line missing p m none (not_nothing b line low ne))
+    let made : WithBody (header_of header) (closed (drop body b)) command = subst (λ t. WithBody (header_of header) t command) s whole in
+    rw n (last_item b (header_of header) body line missing command p m none (not_nothing b line low ne) made)
 
 -- the body begins within the bytes
 pub body_within : (was : Option RustHeader) (b : List ℕ) (body line missing : ℕ) → IsSome was → Opens was b body line missing → line ≤ length b → body ≤ length b

@@ -1,14 +1,24 @@
 //! What a command line is, by its words.
 
-ghost use Rattle.std.specs.Prelude.{◌≡◌, ◌≢◌, ℕ, ◌<◌, ◌^◌, ◌↔◌, List, [], ◌∷◌, ◌++◌, codes, IsTrue, IfOk, MatchOption};
-ghost use Rattle.std.specs.Fmt.{decimal};
-ghost use Rattle.mt_session_spec.specs.Commands.{IsName, IsHeader, is_name_byte, body_lines, with_body};
-ghost use Rattle.mt_script.specs.Seen.{command_of};
+ghost use Rattle.std.specs.Prelude.{◌≡◌, List, IfOk, MatchOption, map};
+ghost use Rattle.std.specs.List.{AllZip};
+ghost use Rattle.std.specs.Str.Lines.{lines};
+ghost use Rattle.mt_session_spec.specs.Commands.{IsHeader, IsBatchLine, body_lines, WithBody};
+ghost use Rattle.mt_script.specs.Seen.{command_of, batch_line_of};
 ghost use Rattle.mt_session_spec.specs.Commands as spec;
-ghost use Rattle.mt_script.specs.Headers.{header_of, Reads, IsNumber};
+ghost use Rattle.mt_script.specs.Headers.{header_of};
+ghost use Rattle.mt_script.specs.Reading.{Reads, word_at, words_at, line_at};
 
-use super::{Ask, Command};
-use mt_base::{List, NoMemory, Value};
+use super::asks::{read_ask, read_batch_line};
+use super::heads::{
+    read_add, read_batch, read_generate, read_grammar, read_keywords, read_merge, read_open,
+    read_partner, read_registry, read_remove, read_rules, read_save, read_subcorpus, read_subcount,
+    read_text,
+};
+use super::keyword::{Keyword, read_keyword};
+use super::words::{Unread, split};
+use super::{BatchLine, Command};
+use mt_base::{Lines, List, NoMemory, Value};
 use std::alloc::Global;
 
 /// The most bytes of a command line.
@@ -17,10 +27,22 @@ pub const LINE_LIMIT: usize = 65_536;
 /// A command line, before its body.
 #[derive(Debug, Drop)]
 pub enum Header {
-    /// A question, which has no body.
-    Ask(Ask),
+    /// A command that has no body.
+    Lone(Command),
     /// A text, and how many lines its body has.
-    Text { name: Value, lines: u32 },
+    Text {
+        name: Value,
+        lines: u32,
+    },
+    /// A sketch grammar of so many lines.
+    Rules {
+        lines: u32,
+    },
+    /// A batch of so many lines, and what it merges.
+    Batch {
+        lines: u32,
+        merge: Option<(u32, u32)>,
+    },
 }
 
 impl Header {
@@ -29,96 +51,94 @@ impl Header {
         ensures { result ≡ body_lines (header_of self.now) }
     {
         match self {
-            Header::Ask(_) => 0,
+            Header::Lone(_) => 0,
             Header::Text { lines, .. } => *lines,
+            Header::Rules { lines } => *lines,
+            Header::Batch { lines, .. } => *lines,
         }
     }
 
     /// The command with this body.
-    pub fn with_body(self, body: List<u8>) -> Command
-        ensures { command_of result ≡ with_body (header_of self) body }
+    pub fn with_body(self, alloc: Global, body: List<u8>) -> Result<Command, NoMemory>
+        ensures { IfOk result (λ command. WithBody (header_of self) body (command_of command)) }
     {
         match self {
-            Header::Ask(ask) => Command::Ask(ask),
-            Header::Text { name, .. } => Command::Text { name, body },
+            Header::Lone(command) => Ok(command),
+            Header::Text { name, .. } => Ok(Command::Text { name, body }),
+            Header::Rules { .. } => Ok(Command::Rules { body }),
+            Header::Batch { merge, .. } => {
+                let lines = read_lines(alloc, body.as_slice())?;
+                Ok(Command::Batch { lines, merge })
+            }
         }
     }
 }
 
-/// Whether these bytes are a name.
-fn is_name(text: &str) -> bool
-    ensures { IsTrue result ↔ IsName text.now }
+/// The lines of a batch.
+fn read_lines(alloc: Global, body: &[u8]) -> Result<List<BatchLine>, NoMemory>
+    ensures { IfOk result (λ read. AllZip IsBatchLine (lines body.now) (map batch_line_of read)) }
 {
-    let bytes = text.as_bytes();
-    !bytes.is_empty()
-        && bytes.len() <= 64
-        && bytes[0].is_ascii_alphanumeric()
-        && bytes.iter().all(|b| is_in_name(*b))
+    let mut read = List::new(alloc);
+    for line in Lines::new(body) {
+        read.push(read_batch_line(alloc, line)?)?;
+    }
+    Ok(read)
 }
 
-fn is_in_name(b: u8) -> bool
-    ensures { result ≡ is_name_byte b }
+/// What a first word and the words behind it say.
+#[tactic(auto, unfolding(crate::specs::Reading::words_at))]
+fn read_words(alloc: Global, keyword: Keyword, words: &str) -> Result<Header, Unread>
+    ensures { Reads header_of result (words_at keyword words.now) }
 {
-    b.is_ascii_alphanumeric() || b == b'_' || b == b'-' || b == b'.'
-}
-
-/// Whether these bytes are 1 to 9 digits with no leading zero.
-fn is_number(digits: &[u8]) -> bool
-    ensures { IsTrue result ↔ IsNumber digits.now }
-{
-    !digits.is_empty()
-        && digits.len() <= 9
-        && (digits[0] != b'0' || digits.len() == 1)
-        && digits.iter().all(|b| b.is_ascii_digit())
-}
-
-/// The number that these digits write.
-fn read_number(text: &str) -> Option<u32>
-    ensures { MatchOption result ((n : ℕ) → n < 10 ^ 9 → text.now ≢ decimal n) (λ n. (n < 10 ^ 9) × (text.now ≡ decimal n)) }
-{
-    if is_number(text.as_bytes()) {
-        text.parse().ok()
-    } else {
-        None
+    match keyword {
+        Keyword::Registry => read_registry(alloc, words),
+        Keyword::Text => read_text(alloc, words),
+        Keyword::Add => read_add(alloc, words),
+        Keyword::Generate => read_generate(alloc, words),
+        Keyword::Grammar => read_grammar(alloc, words),
+        Keyword::Rules => read_rules(words),
+        Keyword::Merge => read_merge(words),
+        Keyword::Batch => read_batch(words),
+        Keyword::Save => read_save(alloc, words),
+        Keyword::Open => read_open(alloc, words),
+        Keyword::Remove => read_remove(alloc, words),
+        Keyword::Subcorpus => read_subcorpus(alloc, words),
+        Keyword::Subcount => read_subcount(alloc, words),
+        Keyword::Keywords => read_keywords(alloc, words),
+        Keyword::Partner => read_partner(alloc, words),
+        _ => {
+            let ask = read_ask(alloc, keyword, words)?;
+            Ok(Header::Lone(Command::Ask(ask)))
+        }
     }
 }
 
-/// `count CQL`, behind its first word.
-fn read_count(alloc: Global, cql: &str) -> Result<Option<Header>, NoMemory>
-    ensures { IfOk result (λ found. Reads found (codes "count" ++ 32 ∷ cql.now)) }
+/// A command that is one word.
+#[tactic(auto, unfolding(crate::specs::Reading::word_at))]
+fn read_word(keyword: Keyword) -> Result<Header, Unread>
+    ensures { Reads header_of result (word_at keyword) }
 {
-    if cql.is_empty() {
-        return Ok(None);
+    match keyword {
+        Keyword::Segments => Ok(Header::Lone(Command::Segments)),
+        Keyword::Quit => Ok(Header::Lone(Command::Quit)),
+        _ => Err(Unread::NoCommand),
     }
-    let cql = Value::new(alloc, cql)?;
-    Ok(Some(Header::Ask(Ask::Count { cql })))
-}
-
-/// `text NAME N`, behind its first word.
-fn read_text_line(alloc: Global, words: &str) -> Result<Option<Header>, NoMemory>
-    ensures { IfOk result (λ found. Reads found (codes "text" ++ 32 ∷ words.now)) }
-{
-    let Some((name, number)) = words.split_once(' ') else {
-        return Ok(None);
-    };
-    if !is_name(name) {
-        return Ok(None);
-    }
-    let Some(lines) = read_number(number) else {
-        return Ok(None);
-    };
-    let name = Value::new(alloc, name)?;
-    Ok(Some(Header::Text { name, lines }))
 }
 
 /// What the words of a line say.
-fn read_words(alloc: Global, line: &str) -> Result<Option<Header>, NoMemory>
-    ensures { IfOk result (λ found. Reads found line.now) }
+#[tactic(auto, unfolding(crate::specs::Reading::line_at))]
+fn read_line(alloc: Global, line: &str) -> Result<Header, Unread>
+    ensures { Reads header_of result (line_at line.now) }
 {
-    match line.split_once(' ') {
-        Some(("count", cql)) => read_count(alloc, cql),
-        Some(("text", words)) => read_text_line(alloc, words),
-        _ => Ok(None),
+    match split(line) {
+        Some((word, words)) => {
+            let keyword = read_keyword(word)?;
+            read_words(alloc, keyword, words)
+        }
+        None => {
+            let keyword = read_keyword(line)?;
+            read_word(keyword)
+        }
     }
 }
 
@@ -129,8 +149,12 @@ pub fn read_header(alloc: Global, line: &[u8]) -> Result<Option<Header>, NoMemor
     if line.len() > LINE_LIMIT {
         return Ok(None);
     }
-    match str::from_utf8(line) {
-        Ok(line) => read_words(alloc, line),
-        Err(_) => Ok(None),
+    let Ok(line) = str::from_utf8(line) else {
+        return Ok(None);
+    };
+    match read_line(alloc, line) {
+        Ok(header) => Ok(Some(header)),
+        Err(Unread::NoCommand) => Ok(None),
+        Err(Unread::NoMemory) => Err(NoMemory),
     }
 }

@@ -167,9 +167,13 @@ impl Scan {
         match self.header.take() {
             None => unreachable!(),
             Some(header) => {
+                let Ok(command) = header.with_body(alloc, List::from_vec(body)) else {
+                    self.give_out(0);
+                    return Next::NoMemory;
+                };
                 let line = self.line;
                 self.give_out(line);
-                Next::Command(header.with_body(List::from_vec(body)))
+                Next::Command(command)
             }
         }
     }
@@ -191,16 +195,19 @@ impl Scan {
         let Ok(header) = read_header(alloc, line) else {
             return Next::NoMemory;
         };
-        self.give_out_all();
-        match header {
-            None => Next::Bad,
-            Some(header) => {
-                if header.lines() > 0 {
-                    return Next::CutShort;
-                }
-                Next::Command(header.with_body(List::new(alloc)))
-            }
+        let Some(header) = header else {
+            self.give_out_all();
+            return Next::Bad;
+        };
+        if header.lines() > 0 {
+            self.give_out_all();
+            return Next::CutShort;
         }
+        let Ok(command) = header.with_body(alloc, List::new(alloc)) else {
+            return Next::NoMemory;
+        };
+        self.give_out_all();
+        Next::Command(command)
     }
 
     /// What the rest is where the input ends and lines of a body are missing.
@@ -223,8 +230,12 @@ impl Scan {
         match self.header.take() {
             None => unreachable!(),
             Some(header) => {
+                let Ok(command) = header.with_body(alloc, List::from_vec(body)) else {
+                    self.give_out(0);
+                    return Next::NoMemory;
+                };
                 self.give_out_all();
-                Next::Command(header.with_body(List::from_vec(body)))
+                Next::Command(command)
             }
         }
     }

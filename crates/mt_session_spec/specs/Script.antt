@@ -2,7 +2,7 @@
 use Rattle.std.specs.Prelude.{ℕ, ◌≡◌, ◌≢◌, ◌+◌, ◌<◌, ◌⊎◌, Bool, true, false, List, [], ◌∷◌, ◌++◌}
 use Rattle.std.specs.Str.Lines.{strip_carriage_return}
 use Rattle.mt_text_spec.specs.Lines.{IsLine, Block, closed}
-use Rattle.mt_session_spec.specs.Commands.{Command, Header, body_lines, with_body, IsHeader, IsSkipped}
+use Rattle.mt_session_spec.specs.Commands.{Command, Header, body_lines, WithBody, IsHeader, IsSkipped}
 
 -- An item is a command, a line that is no command, or a body that the input cuts short.
 pub data Item : Type 0 where
@@ -66,9 +66,9 @@ pub record Fewer (ended : Bool) (number : ℕ) (bytes : List ℕ) : Type 0 where
 -- The bytes begin with this item, and the others follow.
 pub data Whole (ended : Bool) (bytes : List ℕ) : Item → List ℕ → Type 0 where
   -- a good header always takes its body
-  Commanded : (line mid : List ℕ) (header : Header) (body others : List ℕ) →
+  Commanded : (line mid : List ℕ) (header : Header) (body : List ℕ) (command : Command) (others : List ℕ) →
       FirstLine ended bytes line mid → (IsSkipped line → ⊥) → IsHeader line header → Body ended (body_lines header) mid body others →
-      Whole ended bytes (Given (with_body header body)) others
+      WithBody header body command → Whole ended bytes (Given command) others
   -- a line that is no header is an item by itself
   Refused : (line others : List ℕ) →
       FirstLine ended bytes line others → (IsSkipped line → ⊥) → ((header : Header) → IsHeader line header → ⊥) →

@@ -66,6 +66,11 @@ Refuses world (Asks (Count cql)) BadCommand = (value : List ℕ) → IsLiteral c
 Refuses world (Asks (Count cql)) CutShort = ⊥
 Refuses world (Asks (Count cql)) (NameTaken taken) = ⊥
 Refuses world (Asks (Count cql)) (NotBuilt line) = ⊥
+-- a command that is not built yet
+Refuses world command BadCommand = Unit {0}
+Refuses world command CutShort = ⊥
+Refuses world command (NameTaken taken) = ⊥
+Refuses world command (NotBuilt line) = ⊥
 
 -- `text`: the text is held from now on, and the reply is the number of its tokens
 pub record AddsText (world : World) (name body : List ℕ) (new : World) (reply : List ℕ) : Type 0 where
@@ -85,6 +90,7 @@ pub record Counts (world : World) (cql : List ℕ) (new : World) (reply : List �
 abbrev pub Accepts : World → Command → World → List ℕ → Type 0
 Accepts world (TextCommand name body) new reply = AddsText world name body new reply
 Accepts world (Asks (Count cql)) new reply = Counts world cql new reply
+Accepts world command new reply = ⊥
 
 -- the first refusal in the one order whose cause is there
 pub record IsRefused (world : World) (command : Command) (refusal : Refusal) : Type 0 where
