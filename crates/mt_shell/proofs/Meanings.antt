@@ -10,6 +10,11 @@ use Rattle.mt_session_spec.specs.Commands.{Command, Text as TextCommand, Asks, C
 use Rattle.mt_session_spec.specs.World.{World, Holds, Refusal, BadCommand, CutShort, NameTaken, NotBuilt, rank, Refuses, IsRefused, Fine, Declined, Accepted, IsLiteral, occurrences}
 use Rattle.mt_shell.specs.declared.session.Reply.{Reply}
 use Rattle.mt_shell.specs.declared.session.Reply.TheVariants.{Lines, NoMemory}
+use Rattle.mt_script.specs.declared.command.Ask.{Ask as RustAsk}
+use Rattle.mt_script.specs.declared.command.Ask.TheVariants.{Count as RustCount, Query as RustQuery, Freq as RustFreq, Colloc as RustColloc, Sketch as RustSketch, Thes as RustThes}
+use Rattle.mt_script.specs.declared.command.Command.{Command as RustCommand}
+use Rattle.mt_script.specs.declared.command.Command.TheVariants as command
+use Rattle.mt_script.specs.Seen.{ask_of, command_of}
 use Rattle.mt_shell.specs.Answers.{Answers, Keeps, Declines}
 
 middle : (before : List (List ℕ)) (line : List ℕ) (after : List (List ℕ)) → AllByRecursion IsPlain (before ++ line ∷ after) → IsPlain line
@@ -79,3 +84,37 @@ counted world cql value line l e = Accepted world line (count_refused world cql 
 
 pub not_true : IsTrue false → ⊥
 not_true h = cc
+
+-- ## What is not built yet
+
+unbuilt : (world : World) (command : Command) (reply : Reply) → Refuses world command BadCommand → Declines BadCommand reply → Answers world command reply world
+unbuilt world command reply cause d = declines world command BadCommand reply (record { cause = cause; first = λ other l. absurd (omega arith) }) d
+
+pub unbuilt_ask : (world : World) (ask : RustAsk) (reply : Reply) → ((cql : List ℕ) → ask ≡ RustCount cql → ⊥) → Declines BadCommand reply → Answers world (Asks (ask_of ask)) reply world
+unbuilt_ask world (RustCount cql) reply none d = absurd (none cql refl)
+unbuilt_ask world (RustQuery cql) reply none d = unbuilt world _ reply tt d
+unbuilt_ask world (RustFreq attr offset cql) reply none d = unbuilt world _ reply tt d
+unbuilt_ask world (RustColloc attr first last least cql) reply none d = unbuilt world _ reply tt d
+unbuilt_ask world (RustSketch least most lemma) reply none d = unbuilt world _ reply tt d
+unbuilt_ask world (RustThes most lemma) reply none d = unbuilt world _ reply tt d
+
+pub unbuilt_command : (world : World) (given : RustCommand) (reply : Reply) → ((name : List ℕ) (body : List ℕ) → given ≡ command.Text name body → ⊥) → ((ask : RustAsk) → given ≡ command.Ask ask → ⊥) →
+    Declines BadCommand reply → Answers world (command_of given) reply world
+unbuilt_command world (command.Registry file) reply text ask d = unbuilt world _ reply tt d
+unbuilt_command world (command.Text name body) reply text ask d = absurd (text name body refl)
+unbuilt_command world (command.Add name file) reply text ask d = unbuilt world _ reply tt d
+unbuilt_command world (command.Generate name seed tokens) reply text ask d = unbuilt world _ reply tt d
+unbuilt_command world (command.Ask asked) reply text ask d = absurd (ask asked refl)
+unbuilt_command world (command.Grammar file) reply text ask d = unbuilt world _ reply tt d
+unbuilt_command world (command.Rules body) reply text ask d = unbuilt world _ reply tt d
+unbuilt_command world (command.Merge first last) reply text ask d = unbuilt world _ reply tt d
+unbuilt_command world (command.Batch lines merge) reply text ask d = unbuilt world _ reply tt d
+unbuilt_command world command.Segments reply text ask d = unbuilt world _ reply tt d
+unbuilt_command world (command.Save name) reply text ask d = unbuilt world _ reply tt d
+unbuilt_command world (command.Load name) reply text ask d = unbuilt world _ reply tt d
+unbuilt_command world command.Quit reply text ask d = unbuilt world _ reply tt d
+unbuilt_command world (command.Remove name) reply text ask d = unbuilt world _ reply tt d
+unbuilt_command world (command.Subcorpus name cql) reply text ask d = unbuilt world _ reply tt d
+unbuilt_command world (command.Subcount name cql) reply text ask d = unbuilt world _ reply tt d
+unbuilt_command world (command.Keywords name attr rarity most) reply text ask d = unbuilt world _ reply tt d
+unbuilt_command world (command.Partner name kind) reply text ask d = unbuilt world _ reply tt d

@@ -108,7 +108,7 @@ body_shortens ended n bytes body others (inl c) = rw c.are (grind (arith, common
 body_shortens ended n bytes body others (inr o) = rw o.nothing (grind (arith, common_steps))
 
 whole_shortens : {ended : Bool} → (bytes : List ℕ) (item : Item) (others : List ℕ) → Whole ended bytes item others → length others < length bytes
-whole_shortens {ended} bytes item others (Commanded line mid header body others' f s g b) =
+whole_shortens {ended} bytes item others (Commanded line mid header body command others' f s g b w) =
     let one = line_shortens ended bytes line mid f in let two = body_shortens ended _ mid body others b in omega (arith, one, two)
 whole_shortens {ended} bytes item others (Refused line others' f s n) = line_shortens ended bytes line others f
 whole_shortens {ended} bytes item others (Broken line mid header e f s g few) = let one = line_shortens ended bytes line mid f in omega (arith, one)
@@ -143,8 +143,8 @@ body_grows ended n bytes body others more (inl c) = inl (record { are = rw (c.ar
 body_grows ended n bytes body others more (inr o) = let e : false ≡ true = o.last in cc
 
 whole_grows : (ended : Bool) (bytes : List ℕ) (item : Item) (others more : List ℕ) → Whole false bytes item others → Whole ended (bytes ++ more) item (others ++ more)
-whole_grows ended bytes item others more (Commanded line mid header body others' f s g b) =
-    Commanded line (mid ++ more) header body (others ++ more) (line_grows ended bytes line mid more f) s g (body_grows ended _ mid body others more b)
+whole_grows ended bytes item others more (Commanded line mid header body command others' f s g b w) =
+    Commanded line (mid ++ more) header body command (others ++ more) (line_grows ended bytes line mid more f) s g (body_grows ended _ mid body others more b) w
 whole_grows ended bytes item others more (Refused line others' f s n) = Refused line (others ++ more) (line_grows ended bytes line others more f) s n
 whole_grows ended bytes item others more (Broken line mid header e f s g few) = let is : false ≡ true = e in cc
 

@@ -7,7 +7,7 @@ ghost use Rattle.mt_text_spec.specs.Lines.{closed};
 ghost use Rattle.mt_text_spec.specs.Texts.{value_of};
 ghost use Rattle.mt_session_spec.specs.Commands as spec;
 ghost use Rattle.mt_session_spec.specs.World.{Holds, occurrences, first_world};
-ghost use Rattle.mt_script.specs.Seen.{command_of};
+ghost use Rattle.mt_script.specs.Seen.{ask_of, command_of};
 ghost use Rattle.mt_shell.specs.Refusals.{refusal_of};
 ghost use Rattle.mt_shell.specs.Answers.{Answers, Keeps, Declines};
 
@@ -60,7 +60,18 @@ impl Session {
     {
         match command {
             Command::Text { name, body } => self.add_text(&name, &body),
-            Command::Ask(Ask::Count { cql }) => self.count(&cql),
+            Command::Ask(ask) => self.answer(&ask),
+            _ => refused(self.alloc, &Refusal::BadCommand),
+        }
+    }
+
+    /// Answers a question. Those that are not built yet are refused.
+    fn answer(&self, ask: &Ask) -> Reply
+        ensures { Answers self.now (spec.Asks (ask_of ask.now)) result self.now }
+    {
+        match ask {
+            Ask::Count { cql } => self.count(cql),
+            _ => refused(self.alloc, &Refusal::BadCommand),
         }
     }
 
