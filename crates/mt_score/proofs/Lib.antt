@@ -1,0 +1,7 @@
+pub mod Constants
+pub mod Doublings
+pub mod Fractions
+pub mod Scores
+pub mod Texts
+pub mod Order
+pub mod Logarithm
