@@ -7,26 +7,55 @@ use std::test::Fail;
 
 /// The script of the first example, and its replies.
 const FIRST: &str = "text a 3\nthe\ncat\nthe\ncount [word==\"the\"]\n";
+
 const FIRST_REPLIES: &str = "ok 3\n= 2\n";
 
 /// Scripts with their replies. Each ends well.
-const SCRIPTS: [(&str, &str); 16] = [
+const SCRIPTS: [(&str, &str); 20] = [
     ("", ""),
     (FIRST, FIRST_REPLIES),
     ("text a 3\nthe\n", "! 11 CutShort\n"),
     ("text a 1", "! 11 CutShort\n"),
     ("text a 0", "ok 0\n"),
-    ("text a 1\nx\ntext a 1\nquit\ncount [word==\"x\"]\n", "ok 1\n! 13 NameTaken a\n= 1\n"),
-    ("text a 2\nx\n<s>\ncount [word==\"x\"]\n", "! 17 BadVertical 2 NotBuilt\n= 0\n"),
-    ("text a 2\r\nx\r\nx\r\ncount [word==\"x\"]\r\n", "ok 2\n= 2\n"),
+    (
+        "text a 1\nx\ntext a 1\nquit\ncount [word==\"x\"]\n",
+        "ok 1\n! 13 NameTaken a\n= 1\n",
+    ),
+    (
+        "text a 2\nx\n<s>\ncount [word==\"x\"]\n",
+        "! 17 BadVertical 2 NotBuilt\n= 0\n",
+    ),
+    (
+        "text a 2\r\nx\r\nx\r\ncount [word==\"x\"]\r\n",
+        "ok 2\n= 2\n",
+    ),
     ("text a 1\nx\ncount [word==\"x\"]", "ok 1\n= 1\n"),
     ("count [word==\"x\"]\r", "! 10 BadCommand\n"),
     ("text a 1\nx\r", "ok 1\n"),
     ("\n# skipped\n\n#\r\n", ""),
     ("text  a 1\nx\n", "! 10 BadCommand\n! 10 BadCommand\n"),
-    ("text a 01\ntext a 1 \ntext -a 1\ntext a +1\n", "! 10 BadCommand\n! 10 BadCommand\n! 10 BadCommand\n! 10 BadCommand\n"),
-    ("count [word==\"\"]\ncount [word==\"x\" ]\ncount [word=\"x\"]\n", "! 10 BadCommand\n! 10 BadCommand\n! 10 BadCommand\n"),
-    ("text a 2\nx\n\ntext b 2\nx\nx", "! 17 BadVertical 2 NotBuilt\nok 2\n"),
+    (
+        "text a 01\ntext a 1 \ntext -a 1\ntext a +1\n",
+        "! 10 BadCommand\n! 10 BadCommand\n! 10 BadCommand\n! 10 BadCommand\n",
+    ),
+    (
+        "count [word==\"\"]\ncount [word==\"x\" ]\ncount [word=\"x\"]\n",
+        "! 10 BadCommand\n! 10 BadCommand\n! 10 BadCommand\n",
+    ),
+    (
+        "rules 2\ntext a 1\nquit\ntext a 1\nx\n",
+        "! 10 BadCommand\nok 1\n",
+    ),
+    (
+        "batch 2 merge 0 1\ncount []\n#\nquit\ntext a 0\n",
+        "! 10 BadCommand\n! 10 BadCommand\nok 0\n",
+    ),
+    ("batch 33\ntext a 1\nx\n", "! 10 BadCommand\nok 1\n"),
+    ("rules 1\n", "! 11 CutShort\n"),
+    (
+        "text a 2\nx\n\ntext b 2\nx\nx",
+        "! 17 BadVertical 2 NotBuilt\nok 2\n",
+    ),
 ];
 
 fn bytes(alloc: Global, text: &[u8]) -> Result<List<u8>, AllocError> {
@@ -38,7 +67,12 @@ fn calls(alloc: Global, numbers: &[u32]) -> Result<List<u32>, AllocError> {
 }
 
 /// Runs the script with these reads and these writes failing, and gives the status and what was written.
-fn ran(alloc: Global, script: &[u8], reads: &[u32], writes: &[u32]) -> Result<(Status, MemorySink), AllocError> {
+fn ran(
+    alloc: Global,
+    script: &[u8],
+    reads: &[u32],
+    writes: &[u32],
+) -> Result<(Status, MemorySink), AllocError> {
     let mut source = MemorySource::new(bytes(alloc, script)?, calls(alloc, reads)?);
     let mut sink = MemorySink::new(alloc, calls(alloc, writes)?);
     let status = run(alloc, &[], &mut source, &mut sink);
@@ -52,7 +86,9 @@ fn scripts_have_their_replies(rt: HostRuntime) -> Result<(), Fail> {
         assert_eq!(rt; status, Status::Done);
         assert_eq!(rt; sink.written().as_slice(), replies.as_bytes());
 
-        let mut pieces = OneByte { rest: script.as_bytes() };
+        let mut pieces = OneByte {
+            rest: script.as_bytes(),
+        };
         let mut sink = MemorySink::new(rt.alloc(), List::new(rt.alloc()));
         assert_eq!(rt; run(rt.alloc(), &[], &mut pieces, &mut sink), Status::Done);
         assert_eq!(rt; sink.written().as_slice(), replies.as_bytes());
@@ -84,18 +120,43 @@ fn a_word_is_usage(rt: HostRuntime) -> Result<(), Fail> {
     let words = vec![in rt.alloc(); String::from_str(rt.alloc(), "--workers")?]?;
     let mut source = MemorySource::new(bytes(rt.alloc(), FIRST.as_bytes())?, List::new(rt.alloc()));
     let mut sink = MemorySink::new(rt.alloc(), List::new(rt.alloc()));
-    assert_eq!(rt; run(rt.alloc(), &words, &mut source, &mut sink), Status::Usage);
+    assert_eq!(rt;
+        run(rt.alloc(), &words, &mut source, &mut sink),
+        Status::Usage
+    );
     assert!(rt; sink.written().is_empty());
     Ok(())
 }
 
 #[test]
 fn a_script_has_a_greatest_length(rt: HostRuntime) -> Result<(), Fail> {
-    for (left, status) in [(268_435_456, Status::Done), (268_435_457, Status::ScriptTooLong)] {
+    for (left, status) in [
+        (268_435_456, Status::Done),
+        (268_435_457, Status::ScriptTooLong),
+    ] {
         let mut source = LineFeeds { left };
         let mut sink = MemorySink::new(rt.alloc(), List::new(rt.alloc()));
         assert_eq!(rt; run(rt.alloc(), &[], &mut source, &mut sink), status);
         assert!(rt; sink.written().is_empty());
     }
     Ok(())
+}
+
+/// What the first example may answer where one allocation fails: the status, and what is written.
+const STARVED: [(Status, &str); 5] = [
+    (Status::Done, FIRST_REPLIES),
+    (Status::Done, "! 30 NoMemory\n= 0\n"),
+    (Status::Done, "ok 3\n! 30 NoMemory\n"),
+    (Status::NoMemory, ""),
+    (Status::NoMemory, "ok 3\n"),
+];
+
+/// Where an allocation of the test itself fails, nothing is judged.
+#[test]
+fn want_of_memory_changes_nothing(rt: HostRuntime) {
+    if let Ok((status, sink)) = ran(rt.alloc(), FIRST.as_bytes(), &[], &[]) {
+        let is_known = STARVED.iter().any(|known| known.0 == status
+            && known.1.as_bytes() == sink.written().as_slice());
+        assert!(rt; is_known);
+    }
 }
