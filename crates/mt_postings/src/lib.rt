@@ -1,0 +1,2 @@
+//! Posting lists.
+#![tactic(auto)]
