@@ -1,14 +1,14 @@
 -- Elias gamma and delta: their lengths, and that no code begins another.
 use Rattle.std.proofs.Common.{ℕ, zero, suc, ◌≡◌, ◌≢◌, ◌+◌, ◌-◌, ◌*◌, ◌/◌, ◌%◌, ◌^◌, ◌<◌, ◌≤◌, ◌==◌, ◌⊎◌, Bool, true, false, List, [], ◌∷◌, ◌++◌, length, replicate, take, drop, refl, sym, ap, ◌∙◌, subst, inl, inr, arith, add-one, append_assoc, nat_lt}
 use Rattle.std.proofs.Math.Nat.{pow-suc, mul-le-mul_left, mod-eq_of_lt}
-use Rattle.std.proofs.lemmas.Nat.{pow_pos, pow_below}
+use Rattle.std.proofs.lemmas.Nat.{pow_pos, pow_below, pow-add, mod_low, mul-add-lt}
 use Rattle.std.proofs.lemmas.Bool.{cases_lt, cases_order}
 use Rattle.std.proofs.lemmas.Bool.Decides.{nat_tests}
 use Rattle.std.proofs.lemmas.List.{length-append, length-replicate, append_cancel_left, replicate-append-replicate, append-nil, take_at, drop_at}
 use Rattle.mt_store_spec.specs.Codes.{digits, halvings, log2, gamma, delta, bits}
 use Rattle.mt_postings.proofs.Digits.{length-digits, digits_joined, digits_padded, digits_top, same_from_digits, digits-same}
 
-pow_more : (k : ℕ) → 2 ^ (k + 1) ≡ 2 * 2 ^ k
+pub pow_more : (k : ℕ) → 2 ^ (k + 1) ≡ 2 * 2 ^ k
 pow_more k = rw (add-one, pow-suc) (omega arith)
 
 halvings_bounds : (most n : ℕ) → n ≤ most → 1 ≤ n → (2 ^ halvings most n ≤ n) × (n < 2 ^ (halvings most n + 1))
@@ -34,6 +34,13 @@ pow_above i j h =
     elim (cases_order (i + 1) j) [
         inl e ↦ rw e (omega arith)
       | inr o ↦ elim o [ inl l ↦ let b = pow_below (i + 1) j l in omega arith | inr g ↦ absurd (omega arith) ]
+    ]
+
+pub pow_monotone : (i j : ℕ) → i ≤ j → 2 ^ i ≤ 2 ^ j
+pow_monotone i j h =
+    elim (cases_order i j) [
+        inl e ↦ rw e (omega arith)
+      | inr o ↦ elim o [ inl l ↦ let b = pow_below i j l in omega arith | inr g ↦ absurd (omega arith) ]
     ]
 
 -- and there is one such place
@@ -138,3 +145,38 @@ delta_same a b r s ha hb h =
     let la : 2 ^ log2 b ≤ a = subst (λ k. 2 ^ k ≤ a) k ba.0 in
     let ua : a < 2 ^ (log2 b + 1) = subst (λ k. a < 2 ^ (k + 1)) k ba.1 in
     (low_same (log2 b) a b la ua bb.0 bb.1 d, p.1)
+
+-- the codes as the digits of one number
+pub gamma_digits : (z g : ℕ) → 2 ^ z ≤ g → g < 2 ^ (z + 1) → gamma g ≡ digits (2 * z + 1) g
+unfolding gamma
+gamma_digits z g l u =
+    let e : log2 g ≡ z = log2_is z g l u in
+    let k : 2 * z + 1 ≡ z + (z + 1) = omega arith in
+    let p = digits_padded z (z + 1) g u in
+    rw (e, k) (sym p)
+
+pub delta_digits : (low zeros n : ℕ) → 2 ^ low ≤ n → n < 2 ^ (low + 1) → 2 ^ zeros ≤ low + 1 → low + 1 < 2 ^ (zeros + 1) → delta n ≡ digits (2 * zeros + 1 + low) (low * 2 ^ low + n)
+unfolding delta
+delta_digits low zeros n a b c d =
+    let e : log2 n ≡ low = log2_is low n a b in
+    let two = pow_more low in
+    let m : n - 2 ^ low < 2 ^ low = omega arith in
+    let sum : low * 2 ^ low + n ≡ (low + 1) * 2 ^ low + (n - 2 ^ low) = grind arith in
+    let same : digits low n ≡ digits low (n - 2 ^ low) = digits-same low n (n - 2 ^ low) (ap (λ x. x % 2 ^ low) (omega arith) ∙ mod_low 1 low (n - 2 ^ low) m ∙ sym (mod-eq_of_lt m)) in
+    let g = gamma_digits zeros (low + 1) c d in
+    let j = digits_joined (2 * zeros + 1) low (low + 1) (n - 2 ^ low) m in
+    rw (e, g, same, sum) (sym j)
+
+-- a code of 42 bits at most
+pub delta_fits : (low zeros n : ℕ) → low < 32 → 2 ^ low ≤ n → n < 2 ^ (low + 1) → 2 ^ zeros ≤ low + 1 → low + 1 < 2 ^ (zeros + 1) → (zeros < 6) × (low * 2 ^ low + n < 2 ^ (2 * zeros + 1 + low)) × (low * 2 ^ low + n < 2 ^ 40)
+delta_fits low zeros n few a b c d =
+    let two = pow_more low in
+    let small : zeros < 6 = elim (cases_lt zeros 6) [ inl l ↦ l | inr g ↦ let p = pow_monotone 6 zeros g in absurd (omega arith) ] in
+    let m : n - 2 ^ low < 2 ^ low = omega arith in
+    let sum : low * 2 ^ low + n ≡ (low + 1) * 2 ^ low + (n - 2 ^ low) = grind arith in
+    let up : 2 ^ (zeros + 1) ≤ 2 ^ (2 * zeros + 1) = pow_monotone (zeros + 1) (2 * zeros + 1) (omega arith) in
+    let fits = mul-add-lt (low + 1) (2 ^ low) (n - 2 ^ low) (2 ^ (2 * zeros + 1)) (omega arith) m in
+    let fits40 = mul-add-lt (low + 1) (2 ^ low) (n - 2 ^ low) 64 (omega arith) m in
+    let thirty : 2 ^ low ≤ 2 ^ 31 = pow_monotone low 31 (omega arith) in
+    let e : 2 ^ low * 2 ^ (2 * zeros + 1) ≡ 2 ^ (2 * zeros + 1 + low) = sym (pow-add 2 low (2 * zeros + 1)) ∙ ap (λ x. 2 ^ x) (omega arith) in
+    (small, rw (sum, ← e) fits, omega arith)

@@ -11,6 +11,10 @@ unfolding digits
 length-digits zero n = refl
 length-digits (suc k) n = ap suc (length-digits k n)
 
+pub digits-none : (n : ℕ) → digits 0 n ≡ []
+unfolding digits
+digits-none n = refl
+
 -- the high digits and then the low ones
 pub digits-add : (a b n : ℕ) → digits (a + b) n ≡ digits a (n / 2 ^ b) ++ digits b n
 unfolding digits

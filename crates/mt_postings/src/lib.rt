@@ -1,2 +1,9 @@
-//! Posting lists.
+//! Posting lists: ascending lists of positions, cursors over them, and their codes.
+//!
+//! Contracts see `Postings` as the list of its positions, a `Cursor` as the positions that are left, a `BitWriter` as the
+//! bits written, and a `BitReader` as the bits that are left and the place of the next one.
 #![tactic(auto)]
+
+mod writer;
+
+pub use writer::BitWriter;
