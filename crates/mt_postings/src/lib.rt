@@ -4,6 +4,10 @@
 //! bits written, and a `BitReader` as the bits that are left and the place of the next one.
 #![tactic(auto)]
 
+mod error;
+mod reader;
 mod writer;
 
+pub use error::CodeError;
+pub use reader::BitReader;
 pub use writer::BitWriter;

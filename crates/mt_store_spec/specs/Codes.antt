@@ -32,6 +32,11 @@ abbrev pub bits : List ℕ → List Bool
 bits [] = []
 bits (b ∷ bs) = digits 8 b ++ bits bs
 
+-- What a reader has before it: the bits that are left, and the place of the first of them, counted from 0.
+pub record Unread : Type 0 where
+  pub left : List Bool
+  pub place : ℕ
+
 -- The code here begins with six zeros, or its gamma number is there whole and passes 32: no number below 2^32 has such a code.
 pub data IsTooLarge (left : List Bool) : Type 0 where
   SixZeros : (rest : List Bool) → left ≡ replicate 6 false ++ rest → IsTooLarge left

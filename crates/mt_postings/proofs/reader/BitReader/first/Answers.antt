@@ -1,0 +1,100 @@
+use Rattle.std.proofs.Common.{ℕ, ◌^◌, ◌≡◌, List, ◌+◌, ◌-◌, ◌*◌, ◌/◌, ◌%◌, ◌<◌, ◌≤◌, ◌++◌, length, drop, Fits, w32, w64, sym, ap, ◌∙◌, arith, rules, refl, subst}
+use Rattle.std.proofs.lemmas.List.{length-drop}
+use Rattle.std.proofs.lemmas.Nat.{pow_pos}
+use Rattle.mt_store_spec.specs.Codes.{bits, delta, Unread}
+use Rattle.mt_postings.specs.Words.{Shows}
+use Rattle.mt_postings.proofs.Words.{length-bits}
+use Rattle.mt_postings.proofs.Heads.{Head, head_of, CodeValue, code_value, gamma_value, zeros_cut, six_zeros, head_cut, head_large, rest_cut, whole_code, code_length}
+use Rattle.mt_postings.proofs.reader.BitReader.first.Goals as goal
+
+-- how many bits are left
+left_length : (bytes : List ℕ) (at : ℕ) (unread : Unread) → record { left = drop at (bits bytes); place = at } ≡ unread → (8 * length bytes - at ≡ length unread.left) × (at ≡ unread.place)
+left_length bytes at unread e =
+    let l : length unread.left ≡ length (bits bytes) - at = ap (λ u. length u.left) (sym e) ∙ length-drop at (bits bytes) in
+    let k = length-bits bytes in
+    (omega arith, ap (λ u. u.place) e)
+
+pub returns-then-left-lt6-clause-err : goal.returns-then-left-lt6-clause-err
+returns-then-left-lt6-clause-err c =
+    let left = left_length c.self.inside.bytes.now c.self.inside.at c.args.self.now c.self.view_is in
+    let n = left.0 in
+    (left.1, zeros_cut c.word-word.result c.args.self.now.left c.word-word.ensures c.if-word-eq0.true (omega arith))
+
+pub returns-else-left-lt6-clause-err : goal.returns-else-left-lt6-clause-err
+returns-else-left-lt6-clause-err c =
+    let left = left_length c.self.inside.bytes.now c.self.inside.at c.args.self.now c.self.view_is in
+    let n = left.0 in
+    (left.1, six_zeros c.word-word.result c.args.self.now.left c.word-word.ensures c.if-word-eq0.true (omega arith))
+
+pub returns-then-left-head-clause-err : goal.returns-then-left-head-clause-err
+returns-then-left-head-clause-err c =
+    let left = left_length c.self.inside.bytes.now c.self.inside.at c.args.self.now c.self.view_is in
+    let n = left.0 in
+    let h = head_of c.word-word.result c.ilog2.result c.ilog2.ensures.power_le c.ilog2.ensures.next_power_gt c.ilog2.ensures.bound c.if-word-eq0.false in
+    (left.1, head_cut c.word-word.result (63 - c.ilog2.result) c.args.self.now.left c.word-word.ensures h (omega arith))
+
+pub returns-then-digits-gt32-clause-err : goal.returns-then-digits-gt32-clause-err
+returns-then-digits-gt32-clause-err c =
+    let left = left_length c.self.inside.bytes.now c.self.inside.at c.args.self.now c.self.view_is in
+    let n = left.0 in
+    let h = head_of c.word-word.result c.ilog2.result c.ilog2.ensures.power_le c.ilog2.ensures.next_power_gt c.ilog2.ensures.bound c.if-word-eq0.false in
+    (left.1, head_large c.word-word.result (63 - c.ilog2.result) c.args.self.now.left c.word-word.ensures h (omega arith) c.if-digits-gt32.true)
+
+pub overflow_sub-low : goal.overflow_sub-low
+overflow_sub-low c =
+    let h = head_of c.word-word.result c.ilog2.result c.ilog2.ensures.power_le c.ilog2.ensures.next_power_gt c.ilog2.ensures.bound c.if-word-eq0.false in
+    let v = (gamma_value c.word-word.result (63 - c.ilog2.result) h).0 in
+    let p = pow_pos (63 - c.ilog2.result) in
+    omega arith
+
+pub returns-then-left-length-clause-err : goal.returns-then-left-length-clause-err
+returns-then-left-length-clause-err c =
+    let left = left_length c.self.inside.bytes.now c.self.inside.at c.args.self.now c.self.view_is in
+    let n = left.0 in
+    let z = 63 - c.ilog2.result in
+    let h = head_of c.word-word.result c.ilog2.result c.ilog2.ensures.power_le c.ilog2.ensures.next_power_gt c.ilog2.ensures.bound c.if-word-eq0.false in
+    let v = code_value c.word-word.result z (c.word-word.result / 2 ^ (64 - (2 * z + 1))) h refl c.if-digits-gt32.false in
+    (left.1, rest_cut c.word-word.result z (c.word-word.result / 2 ^ (64 - (2 * z + 1))) c.args.self.now.left c.word-word.ensures h v c.if-digits-gt32.false (omega arith))
+
+pub overflow_sub-n-2 : goal.overflow_sub-n-2
+overflow_sub-n-2 c =
+    let z = 63 - c.ilog2.result in
+    let g = c.word-word.result / 2 ^ (64 - (2 * z + 1)) in
+    let h = head_of c.word-word.result c.ilog2.result c.ilog2.ensures.power_le c.ilog2.ensures.next_power_gt c.ilog2.ensures.bound c.if-word-eq0.false in
+    let v = code_value c.word-word.result z g h refl c.if-digits-gt32.false in
+    subst (λ x. x ≤ c.word-word.result / 2 ^ (64 - (2 * z + 1 + (g - 1)))) (sym v.shifted) v.above
+
+pub overflow_cast-result : goal.overflow_cast-result
+overflow_cast-result c =
+    let z = 63 - c.ilog2.result in
+    let g = c.word-word.result / 2 ^ (64 - (2 * z + 1)) in
+    let h = head_of c.word-word.result c.ilog2.result c.ilog2.ensures.power_le c.ilog2.ensures.next_power_gt c.ilog2.ensures.bound c.if-word-eq0.false in
+    let v = code_value c.word-word.result z g h refl c.if-digits-gt32.false in
+    subst (λ x. Fits w32 (c.word-word.result / 2 ^ (64 - (2 * z + 1 + (g - 1))) - x)) (sym v.shifted) (let f = v.fits in omega arith)
+
+pub returns-clause-range : goal.returns-clause-range
+returns-clause-range c =
+    let z = 63 - c.ilog2.result in
+    let g = c.word-word.result / 2 ^ (64 - (2 * z + 1)) in
+    let h = head_of c.word-word.result c.ilog2.result c.ilog2.ensures.power_le c.ilog2.ensures.next_power_gt c.ilog2.ensures.bound c.if-word-eq0.false in
+    let v = code_value c.word-word.result z g h refl c.if-digits-gt32.false in
+    subst (λ x. (1 ≤ c.word-word.result / 2 ^ (64 - (2 * z + 1 + (g - 1))) - x) × (c.word-word.result / 2 ^ (64 - (2 * z + 1 + (g - 1))) - x < 4294967296)) (sym v.shifted) (v.positive, v.fits)
+
+pub returns-clause-code : goal.returns-clause-code
+returns-clause-code c =
+    let left = left_length c.self.inside.bytes.now c.self.inside.at c.args.self.now c.self.view_is in
+    let n = left.0 in
+    let z = 63 - c.ilog2.result in
+    let g = c.word-word.result / 2 ^ (64 - (2 * z + 1)) in
+    let h = head_of c.word-word.result c.ilog2.result c.ilog2.ensures.power_le c.ilog2.ensures.next_power_gt c.ilog2.ensures.bound c.if-word-eq0.false in
+    let v = code_value c.word-word.result z g h refl c.if-digits-gt32.false in
+    let w = whole_code c.word-word.result z g c.args.self.now.left c.word-word.ensures h v c.if-digits-gt32.false (omega arith) in
+    subst (λ x. c.args.self.now.left ≡ delta (c.word-word.result / 2 ^ (64 - (2 * z + 1 + (g - 1))) - x) ++ drop (2 * z + 1 + (g - 1)) c.args.self.now.left) (sym v.shifted) w
+
+pub returns-clause-length : goal.returns-clause-length
+returns-clause-length c =
+    let z = 63 - c.ilog2.result in
+    let g = c.word-word.result / 2 ^ (64 - (2 * z + 1)) in
+    let h = head_of c.word-word.result c.ilog2.result c.ilog2.ensures.power_le c.ilog2.ensures.next_power_gt c.ilog2.ensures.bound c.if-word-eq0.false in
+    let v = code_value c.word-word.result z g h refl c.if-digits-gt32.false in
+    subst (λ x. length (delta (c.word-word.result / 2 ^ (64 - (2 * z + 1 + (g - 1))) - x)) ≡ 2 * z + 1 + (g - 1)) (sym v.shifted) (code_length c.word-word.result z g v)
