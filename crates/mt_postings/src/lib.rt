@@ -4,10 +4,14 @@
 //! bits written, and a `BitReader` as the bits that are left and the place of the next one.
 #![tactic(auto)]
 
+mod cursor;
 mod error;
+mod postings;
 mod reader;
 mod writer;
 
+pub use cursor::Cursor;
 pub use error::CodeError;
+pub use postings::Postings;
 pub use reader::BitReader;
 pub use writer::BitWriter;
