@@ -195,3 +195,37 @@ shifted_fits shift held part a k d l =
     let e : get_or (held ++ map (λ p. p + shift) part) (length held + k) 0 ≡ get_or (map (λ p. p + shift) part) k 0 = get_or-append-add held (map (λ p. p + shift) part) k 0 in
     let f : get_or (map (λ p. p + shift) part) k 0 ≡ get_or part k d + shift = get_or-map (λ p. p + shift) part k d 0 l in
     omega arith
+
+-- a position of the list is no less than its least
+has_least : (least : ℕ) (ps : List ℕ) (x : ℕ) → From least ps → Has ps x → least ≤ x
+has_least least [] x f h = absurd h
+has_least least (p ∷ ps) x f (inl e) = let l = f.0 in omega arith
+has_least least (p ∷ ps) x f (inr h) = let l = f.0 in let r = has_least (p + 1) ps x f.2 h in omega arith
+
+later_has : (p x : ℕ) (b : List ℕ) → p < x → Has (p ∷ b) x → Has b x
+later_has p x b l (inl e) = absurd (omega arith)
+later_has p x b l (inr h) = h
+
+told : (least : ℕ) (a b : List ℕ) → From least a → From least b → ((x : ℕ) → Has a x → Has b x) → ((x : ℕ) → Has b x → Has a x) → a ≡ b
+told least [] [] f g to fro = refl
+told least [] (y ∷ b) f g to fro = absurd (fro y (inl refl))
+told least (x ∷ a) [] f g to fro = absurd (to x (inl refl))
+told least (x ∷ a) (y ∷ b) f g to fro =
+    let not_above : x ≤ y = elim (cases_lt y x) [ inl l ↦ (let h : (x ≡ y) ⊎ (x + 1 ≤ y) = elim (fro y (inl refl)) [ inl e ↦ inl e | inr h ↦ inr (has_least (x + 1) a y f.2 h) ] in bound x y h) | inr g ↦ g ] in
+    let not_below : y ≤ x = elim (cases_lt x y) [ inl l ↦ (let h : (y ≡ x) ⊎ (y + 1 ≤ x) = elim (to x (inl refl)) [ inl e ↦ inl e | inr h ↦ inr (has_least (y + 1) b x g.2 h) ] in bound y x h) | inr g ↦ g ] in
+    let same : x ≡ y = omega arith in
+    let g' : From (x + 1) b = subst (λ z. From (z + 1) b) (sym same) g.2 in
+    let rest : a ≡ b = told (x + 1) a b f.2 g'
+      (λ z h. later_has y z b (let k = has_least (x + 1) a z f.2 h in omega arith) (to z (inr h)))
+      (λ z h. later_has x z a (let k = has_least (x + 1) b z g' h in omega arith) (fro z (inr h))) in
+    cc
+    where
+      bound : (x y : ℕ) → (x ≡ y) ⊎ (x + 1 ≤ y) → x ≤ y
+      bound x y (inl e) = omega arith
+      bound x y (inr l) = omega arith
+
+pub told_by_members : (a b : List ℕ) → ArePositions a → ArePositions b → ((p : ℕ) → Contains a p ↔ Contains b p) → a ≡ b
+told_by_members a b f g same =
+    told 0 a b (from_start a f) (from_start b g)
+      (λ x h. (has_is b x).1 ((same x).0 ((has_is a x).0 h)))
+      (λ x h. (has_is a x).1 ((same x).1 ((has_is b x).0 h)))

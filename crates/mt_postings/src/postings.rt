@@ -1,11 +1,16 @@
 //! Posting lists over a plain vector.
 
-ghost use Rattle.std.specs.Prelude.{◌≡◌, ℕ, ◌+◌, ◌<◌, ◌⊎◌, ◌↔◌, ◌++◌, length, map, All, Contains, IfOk, OnOk, OnErr};
-ghost use Rattle.mt_store_spec.specs.Positions.{ArePositions};
+ghost use Rattle.std.specs.Prelude.{◌≡◌, ℕ, ◌+◌, ◌<◌, ◌⊎◌, ◌↔◌, List as Items, ◌++◌, length, map, All, Contains, IfOk, IfErr, OnOk, OnErr};
+ghost use Rattle.mt_store_spec.specs.Codes.{bits};
+ghost use Rattle.mt_store_spec.specs.Positions.{ArePositions, IsCode, IsTooLargeAt, IsCutAt, IsPaddingAt};
 ghost use Rattle.mt_postings.specs.Merge.{merge};
+ghost use Rattle.mt_postings.specs.Refused.{IsNoList};
 
 use super::cursor::Cursor;
-use mt_base::NoMemory;
+use super::decoding::decoded;
+use super::error::DecodeError;
+use super::writer::BitWriter;
+use mt_base::{List, NoMemory};
 use std::alloc::Global;
 use std::marker::Model;
 
@@ -70,6 +75,41 @@ impl Postings {
         ensures err { OnErr result (self.new ≡ self.old) }
     {
         push_shifted(&mut self.positions, part.positions.as_slice(), shift)
+    }
+
+    /// The code of the list: the Elias delta codes of the first position plus one and of each gap, and zeros to fill the
+    /// last byte. That of no positions has no bytes.
+    pub fn encode(&self, alloc: Global) -> Result<List<u8>, NoMemory>
+        ensures code { IfOk result (λ bytes. IsCode bytes self.now) }
+        ensures short { IfOk result (λ bytes. length bytes < 4294967296) }
+    {
+        let mut writer = BitWriter::new(alloc);
+        let mut least = 0;
+        for position in &self.positions {
+            writer.put_delta(*position - least + 1)?;
+            least = *position + 1;
+        }
+        Ok(writer.finish())
+    }
+
+    /// The list of `count` positions whose code the bytes are.
+    pub fn decode(alloc: Global, count: u32, bytes: &[u8]) -> Result<Self, DecodeError>
+        requires { length bytes.now < 4294967296 }
+        ensures ok { IfOk result (λ p. IsCode bytes.now p × (length p ≡ count)) }
+        ensures err { IfErr result (λ e. IsNoList count (bits bytes.now) e) }
+        ensures code { (p : Items ℕ) → IsCode bytes.now p → length p ≡ count →
+            (result ≡ Ok p) ⊎ (result ≡ Err DecodeError.NoMemory) }
+        ensures too_large { (bit : ℕ) → IsTooLargeAt count (bits bytes.now) bit →
+            (result ≡ Err (DecodeError.TooLarge bit)) ⊎ (result ≡ Err DecodeError.NoMemory) }
+        ensures cut { (bit : ℕ) → IsCutAt count (bits bytes.now) bit →
+            (result ≡ Err (DecodeError.Cut bit)) ⊎ (result ≡ Err DecodeError.NoMemory) }
+        ensures padding { (bit : ℕ) → IsPaddingAt count (bits bytes.now) bit →
+            (result ≡ Err (DecodeError.Padding bit)) ⊎ (result ≡ Err DecodeError.NoMemory) }
+    {
+        match decoded(alloc, count, bytes) {
+            Ok(positions) => Ok(Postings { positions }),
+            Err(refusal) => Err(refusal),
+        }
     }
 }
 

@@ -1,6 +1,6 @@
 //! A reader of bits.
 
-ghost use Rattle.std.specs.Prelude.{◌≡◌, ℕ, ◌+◌, ◌-◌, ◌*◌, ◌^◌, ◌<◌, ◌≤◌, ◌↔◌, Bool, false, List as Items, ◌++◌, length, take, drop, replicate, IfOk, IfErr, OnErr};
+ghost use Rattle.std.specs.Prelude.{◌≡◌, ℕ, ◌+◌, ◌-◌, ◌*◌, ◌^◌, ◌<◌, ◌≤◌, ◌↔◌, Bool, false, List as Items, ◌++◌, length, take, drop, replicate, MatchBool, IfOk, IfErr, OnErr};
 ghost use Rattle.mt_store_spec.specs.Codes.{digits, delta, bits, Unread, IsTooLarge, IsCut};
 ghost use Rattle.mt_postings.specs.Words.{Shows};
 ghost use Rattle.mt_postings.specs.Refused.{IsRefused};
@@ -111,5 +111,21 @@ impl<'a> BitReader<'a> {
             }
             Err(refusal) => Err(refusal),
         }
+    }
+
+    /// The place of the next bit.
+    pub(crate) fn place(&self) -> u64
+        ensures { result ≡ self.now.place }
+    {
+        self.at
+    }
+
+    /// Whether fewer than eight bits are left, all of them zeros.
+    pub(crate) fn is_padding(&self) -> bool
+        ensures { MatchBool result
+            ((n : ℕ) × (n < 8) × (self.now.left ≡ replicate n false))
+            ((n : ℕ) → n < 8 → self.now.left ≡ replicate n false → ⊥) }
+    {
+        8 * self.bytes.len() as u64 - self.at < 8 && self.word() >> 56 == 0
     }
 }

@@ -1,6 +1,6 @@
 -- Posting lists, and their codes.
-use Rattle.std.specs.Prelude.{ℕ, ◌≡◌, ◌+◌, ◌-◌, ◌<◌, ◌≤◌, nat_lt, if◌then◌else◌, Bool, true, false, List, [], ◌∷◌, ◌++◌, length, replicate}
-use Rattle.std.specs.List.{All}
+use Rattle.std.specs.Prelude.{ℕ, ◌≡◌, ◌+◌, ◌-◌, ◌<◌, ◌≤◌, ◌⊎◌, ◌↔◌, nat_lt, if◌then◌else◌, Bool, true, false, List, [], ◌∷◌, ◌++◌, length, replicate}
+use Rattle.std.specs.List.{All, Contains}
 use Rattle.std.specs.List.Sorted.{IsStrictlyIncreasing}
 use Rattle.mt_store_spec.specs.Codes.{delta, bits, IsTooLarge, IsCut}
 
@@ -32,11 +32,11 @@ pub record IsCode (bytes : List ℕ) (positions : List ℕ) : Type 0 where
   pub short : padding < 8
   pub spelt : bits bytes ≡ codes 0 positions ++ replicate padding false
 
--- the bytes begin with the codes of these positions, which end at a bit, and this is left
-pub record BeginsWith (bytes : List ℕ) (positions : List ℕ) (bit : ℕ) (left : List Bool) : Type 0 where
+-- bits begin with the codes of these positions, which end at a bit, and this is left
+pub record BeginsWith (all : List Bool) (positions : List ℕ) (bit : ℕ) (left : List Bool) : Type 0 where
   pub valid : ArePositions positions
-  pub place : length (codes 0 positions) ≡ bit
-  pub spelt : bits bytes ≡ codes 0 positions ++ left
+  pub place : bit ≡ length (codes 0 positions)
+  pub spelt : all ≡ codes 0 positions ++ left
 
 -- a number is coded here, and so great that the position passes 2^32 − 2
 pub record IsPast (least : ℕ) (left : List Bool) : Type 0 where
@@ -46,22 +46,37 @@ pub record IsPast (least : ℕ) (left : List Bool) : Type 0 where
   pub code : left ≡ delta gap ++ rest
 
 -- One of the first `count` codes is too large, or the position that it gives: the code that begins at this bit.
-pub data IsTooLargeAt (count : ℕ) (bytes : List ℕ) (bit : ℕ) : Type 0 where
-  Code : (before : List ℕ) (left : List Bool) → BeginsWith bytes before bit left → length before < count → IsTooLarge left → IsTooLargeAt count bytes bit
-  Position : (before : List ℕ) (left : List Bool) → BeginsWith bytes before bit left → length before < count → IsPast (next_least 0 before) left → IsTooLargeAt count bytes bit
-
--- The bytes end inside one of the first `count` codes, the one that begins at this bit.
-pub record IsCutAt (count : ℕ) (bytes : List ℕ) (bit : ℕ) : Type 0 where
+pub record IsTooLargeAt (count : ℕ) (all : List Bool) (bit : ℕ) : Type 0 where
   pub before : List ℕ
   pub left : List Bool
-  pub begins : BeginsWith bytes before bit left
+  pub begins : BeginsWith all before bit left
+  pub fewer : length before < count
+  pub large : IsTooLarge left ⊎ IsPast (next_least 0 before) left
+
+-- The bits end inside one of the first `count` codes, the one that begins at this bit.
+pub record IsCutAt (count : ℕ) (all : List Bool) (bit : ℕ) : Type 0 where
+  pub before : List ℕ
+  pub left : List Bool
+  pub begins : BeginsWith all before bit left
   pub fewer : length before < count
   pub cut : IsCut left
 
 -- The `count` codes end at this bit, and what is left is not fewer than eight zeros.
-pub record IsPaddingAt (count : ℕ) (bytes : List ℕ) (bit : ℕ) : Type 0 where
+pub record IsPaddingAt (count : ℕ) (all : List Bool) (bit : ℕ) : Type 0 where
   pub before : List ℕ
   pub left : List Bool
-  pub begins : BeginsWith bytes before bit left
-  pub all : length before ≡ count
+  pub begins : BeginsWith all before bit left
+  pub number : length before ≡ count
   pub wrong : (n : ℕ) → n < 8 → left ≡ replicate n false → ⊥
+
+-- bytes are the code of at most one list of so many positions
+abbrev pub HaveOneList : Type 0
+HaveOneList = (bytes a b : List ℕ) → IsCode bytes a → IsCode bytes b → length a ≡ length b → a ≡ b
+
+-- and a list has one code
+abbrev pub HasOneCode : Type 0
+HasOneCode = (positions a b : List ℕ) → All (λ x. x < 256) a → All (λ x. x < 256) b → IsCode a positions → IsCode b positions → a ≡ b
+
+-- two lists of the same positions are one
+abbrev pub AreToldByMembers : Type 0
+AreToldByMembers = (a b : List ℕ) → ArePositions a → ArePositions b → ((p : ℕ) → Contains a p ↔ Contains b p) → a ≡ b
