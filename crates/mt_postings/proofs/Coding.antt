@@ -124,11 +124,15 @@ front least (x ∷ a) (y ∷ b) r s f g e l =
     let gy = g.0 in
     let ea = append_assoc (delta (x + 1 - least)) (codes (x + 1) a) r in
     let eb = append_assoc (delta (y + 1 - least)) (codes (y + 1) b) s in
-    let d = delta_same (x + 1 - least) (y + 1 - least) (codes (x + 1) a ++ r) (codes (y + 1) b ++ s) (omega arith) (omega arith) (sym ea ∙ e ∙ eb) in
-    let gap = d.0 in
+    let ex : 1 ≤ x + 1 - least = omega arith in
+    let ey : 1 ≤ y + 1 - least = omega arith in
+    let both : delta (x + 1 - least) ++ (codes (x + 1) a ++ r) ≡ delta (y + 1 - least) ++ (codes (y + 1) b ++ s) = sym ea ∙ e ∙ eb in
+    let d = delta_same (x + 1 - least) (y + 1 - least) (codes (x + 1) a ++ r) (codes (y + 1) b ++ s) ex ey both in
+    let gap : x + 1 - least ≡ y + 1 - least = d.0 in
+    let after : codes (x + 1) a ++ r ≡ codes (y + 1) b ++ s = d.1 in
     let same : y ≡ x = omega arith in
     let g' : From (x + 1) b = subst (λ q. From (q + 1) b) same g.2 in
-    let e' : codes (x + 1) a ++ r ≡ codes (x + 1) b ++ s = d.1 ∙ ap (λ q. codes (q + 1) b ++ s) same in
+    let e' : codes (x + 1) a ++ r ≡ codes (x + 1) b ++ s = after ∙ ap (λ q. codes (q + 1) b ++ s) same in
     let t = front (x + 1) a b r s f.2 g' e' (omega arith) in
     record { rest = t.rest; whole = ap (λ q. q ∷ b) same ∙ ap (λ q. x ∷ q) t.whole; from = t.from; left = t.left }
 

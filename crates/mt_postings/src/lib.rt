@@ -30,3 +30,6 @@ pub fn are_shared() {
     shared::<CodeError>();
     shared::<DecodeError>();
 }
+
+#[cfg(test)]
+mod tests;
