@@ -116,12 +116,15 @@ record Front (least : ℕ) (a b : List ℕ) (r s : List Bool) : Type 0 where
   pub from : From (next_least least a) rest
   pub left : r ≡ codes (next_least least a) rest ++ s
 
-front : (least : ℕ) (a b : List ℕ) (r s : List Bool) → From least a → From least b → codes least a ++ r ≡ codes least b ++ s → length a ≤ length b → Front least a b r s
-front least [] b r s f g e l = record { rest = b; whole = refl; from = g; left = e }
-front least (x ∷ a) [] r s f g e l = absurd (omega arith)
-front least (x ∷ a) (y ∷ b) r s f g e l =
-    let fx = f.0 in
-    let gy = g.0 in
+front_more : (least x y : ℕ) (a b : List ℕ) (r s : List Bool) → y ≡ x → Front (x + 1) a b r s → Front least (x ∷ a) (y ∷ b) r s
+front_more least x y a b r s e t = record { rest = t.rest; whole = cons_same e t.whole; from = t.from; left = t.left }
+    where
+      cons_same : {p q : ℕ} {c d : List ℕ} → p ≡ q → c ≡ d → p ∷ c ≡ q ∷ d
+      cons_same e f = cc
+
+-- the first numbers of two lists are the same where their codes are
+first_same : (least x y : ℕ) (a b : List ℕ) (r s : List Bool) → least ≤ x → least ≤ y → codes least (x ∷ a) ++ r ≡ codes least (y ∷ b) ++ s → (y ≡ x) × (codes (x + 1) a ++ r ≡ codes (x + 1) b ++ s)
+first_same least x y a b r s fx gy e =
     let ea = append_assoc (delta (x + 1 - least)) (codes (x + 1) a) r in
     let eb = append_assoc (delta (y + 1 - least)) (codes (y + 1) b) s in
     let ex : 1 ≤ x + 1 - least = omega arith in
@@ -129,12 +132,15 @@ front least (x ∷ a) (y ∷ b) r s f g e l =
     let both : delta (x + 1 - least) ++ (codes (x + 1) a ++ r) ≡ delta (y + 1 - least) ++ (codes (y + 1) b ++ s) = sym ea ∙ e ∙ eb in
     let d = delta_same (x + 1 - least) (y + 1 - least) (codes (x + 1) a ++ r) (codes (y + 1) b ++ s) ex ey both in
     let gap : x + 1 - least ≡ y + 1 - least = d.0 in
-    let after : codes (x + 1) a ++ r ≡ codes (y + 1) b ++ s = d.1 in
     let same : y ≡ x = omega arith in
-    let g' : From (x + 1) b = subst (λ q. From (q + 1) b) same g.2 in
-    let e' : codes (x + 1) a ++ r ≡ codes (x + 1) b ++ s = after ∙ ap (λ q. codes (q + 1) b ++ s) same in
-    let t = front (x + 1) a b r s f.2 g' e' (omega arith) in
-    record { rest = t.rest; whole = ap (λ q. q ∷ b) same ∙ ap (λ q. x ∷ q) t.whole; from = t.from; left = t.left }
+    (same, subst (λ q. codes (x + 1) a ++ r ≡ codes (q + 1) b ++ s) same d.1)
+
+front : (least : ℕ) (a b : List ℕ) (r s : List Bool) → From least a → From least b → codes least a ++ r ≡ codes least b ++ s → length a ≤ length b → Front least a b r s
+front least [] b r s f g e l = record { rest = b; whole = refl; from = g; left = e }
+front least (x ∷ a) [] r s f g e l = absurd (omega arith)
+front least (x ∷ a) (y ∷ b) r s f g e l =
+    let d = first_same least x y a b r s f.0 g.0 e in
+    front_more least x y a b r s d.0 (front (x + 1) a b r s f.2 (subst (λ q. From (q + 1) b) d.0 g.2) d.1 (omega arith))
 
 -- No position's code follows.
 Stuck : ℕ → List Bool → Type 0

@@ -10,6 +10,7 @@ use super::reader::BitReader;
 use std::alloc::Global;
 
 /// The next position, which is at least `least`.
+#[inline]
 fn next_position(reader: &mut BitReader<'_>, least: u32) -> Result<u32, DecodeError>
     ensures range { IfOk result (λ p. (least ≤ p) × (p < 4294967295)) }
     ensures code { IfOk result (λ p. reader.old.left ≡ delta (p + 1 - least) ++ reader.new.left) }

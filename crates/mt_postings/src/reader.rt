@@ -38,6 +38,7 @@ fn padded(bytes: &[u8]) -> [u8; 8]
 }
 
 /// The first eight bytes as a word. Where there are fewer, zeros stand for the others.
+#[inline]
 fn first_word(bytes: &[u8]) -> u64
     ensures { digits 64 result ≡ take 64 (bits bytes.now ++ replicate 64 false) }
 {
@@ -57,6 +58,7 @@ impl<'a> BitReader<'a> {
     }
 
     /// The next 57 bits, the first of them in the highest place.
+    #[inline]
     fn word(&self) -> u64
         ensures { Shows result self.now.left }
     {
@@ -66,6 +68,7 @@ impl<'a> BitReader<'a> {
     }
 
     /// The number whose code is next, and how many bits the code has.
+    #[inline]
     fn first(&self) -> Result<(u32, u32), CodeError>
         ensures range { IfOk result (λ code. (1 ≤ code.0) × (code.0 < 4294967296)) }
         ensures code { IfOk result (λ code. self.now.left ≡ delta code.0 ++ drop code.1 self.now.left) }
@@ -77,11 +80,12 @@ impl<'a> BitReader<'a> {
         if word >> 58 == 0 {
             return if left < 6 { Err(CodeError::Cut(self.at)) } else { Err(CodeError::TooLarge(self.at)) };
         }
-        let head = 2 * (63 - word.ilog2()) + 1;
+        let top = word.ilog2();
+        let head = 2 * (63 - top) + 1;
         if left < head as u64 {
             return Err(CodeError::Cut(self.at));
         }
-        let digits = word >> (64 - head);
+        let digits = word >> (2 * top - 63);
         if digits > 32 {
             return Err(CodeError::TooLarge(self.at));
         }
@@ -95,6 +99,7 @@ impl<'a> BitReader<'a> {
     }
 
     /// Reads the number whose Elias delta code is next. It takes no memory.
+    #[inline]
     pub fn get_delta(&mut self) -> Result<u32, CodeError>
         ensures positive { IfOk result (λ n. 1 ≤ n) }
         ensures number { IfOk result (λ n. self.old.left ≡ delta n ++ self.new.left) }

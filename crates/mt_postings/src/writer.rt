@@ -1,6 +1,7 @@
 //! A writer of bits.
 
-ghost use Rattle.std.specs.Prelude.{◌≡◌, ℕ, ◌+◌, ◌*◌, ◌^◌, ◌<◌, ◌≤◌, Bool, false, List as Items, [], ◌++◌, replicate, OnOk, OnErr};
+ghost use Rattle.std.specs.Prelude.{◌≡◌, ℕ, ◌+◌, ◌*◌, ◌^◌, ◌<◌, ◌≤◌, Bool, false, List as Items, [], ◌++◌, replicate, vec_len, vec_capacity, OnOk, OnErr};
+ghost use Rattle.std.specs.Int.{w64, to_be_bytes};
 ghost use Rattle.mt_store_spec.specs.Codes.{digits, delta, bits};
 
 use mt_base::{List, NoMemory};
@@ -29,6 +30,7 @@ impl Model for BitWriter {
 }
 
 /// The code of a number as the lowest bits of a word, and how many they are.
+#[inline(always)]
 fn delta_word(n: u32) -> (u64, u32)
     requires { 1 ≤ n }
     ensures code { digits result.1 result.0 ≡ delta n }
@@ -39,6 +41,19 @@ fn delta_word(n: u32) -> (u64, u32)
     let zeros = (low + 1).ilog2();
     let word = ((low as u64) << low) + n as u64;
     (word, 2 * zeros + 1 + low)
+}
+
+/// Adds a word at the end, with room for another after it.
+fn push_word(bytes: &mut Vec<u8>, word: u64) -> Result<(), NoMemory>
+    ensures ok { OnOk result (bytes.new.items ≡ bytes.old.items ++ to_be_bytes w64 word) }
+    ensures room { OnOk result (vec_len bytes.new + 8 ≤ vec_capacity bytes.new) }
+    ensures err { OnErr result (bytes.new.items ≡ bytes.old.items) }
+    ensures kept { OnErr result (vec_len bytes.new ≡ vec_len bytes.old) }
+    ensures capacity { vec_capacity bytes.old ≤ vec_capacity bytes.new }
+{
+    bytes.reserve(16)?;
+    bytes.extend_from_slice(&word.to_be_bytes())?;
+    Ok(())
 }
 
 impl BitWriter {
@@ -54,6 +69,7 @@ impl BitWriter {
     }
 
     /// Writes the Elias delta code of a number. Without memory nothing is written.
+    #[inline(always)]
     pub fn put_delta(&mut self, n: u32) -> Result<(), NoMemory>
         requires { 1 ≤ n }
         ensures ok { OnOk result (self.new ≡ self.old ++ delta n) }
@@ -64,6 +80,7 @@ impl BitWriter {
     }
 
     /// Writes the lowest `count` bits of a word.
+    #[inline(always)]
     fn put(&mut self, word: u64, count: u32) -> Result<(), NoMemory>
         requires fits { word < 2 ^ count }
         requires few { count ≤ 42 }
@@ -78,8 +95,7 @@ impl BitWriter {
         } else {
             let rest = held - 64;
             let full = (self.word << (64 - self.held)) + (word >> rest);
-            self.bytes.reserve(16)?;
-            self.bytes.extend_from_slice(&full.to_be_bytes())?;
+            push_word(&mut self.bytes, full)?;
             self.word = word & ((1 << rest) - 1);
             self.held = rest;
         }

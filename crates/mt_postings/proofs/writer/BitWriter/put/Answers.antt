@@ -32,12 +32,12 @@ returns-in_ok-reserve-clause-ok c =
     let p = put_more (bits c.self.inside.bytes.items) held c.self.inside.word c.args.count c.args.word c.if-held-lt64.true c.self.invariant.1 c.requires.fits in
     ap (λ x. bits x ++ digits (held + c.args.count) (c.self.inside.word * 2 ^ c.args.count % 2 ^ 64 + c.args.word)) c.reserve.ensures.items ∙ ap (λ x. bits c.self.inside.bytes.items ++ digits (held + c.args.count) (x + c.args.word)) p.0 ∙ p.2 ∙ ap (λ x. x ++ digits c.args.count c.args.word) c.self.view_is
 
-pub returns-in_ok-extend_from_slice-clause-ok : goal.returns-in_ok-extend_from_slice-clause-ok
-returns-in_ok-extend_from_slice-clause-ok c =
+pub returns-in_ok-push_word-clause-ok : goal.returns-in_ok-push_word-clause-ok
+returns-in_ok-push_word-clause-ok c =
     let held = c.self.inside.held in
     let rest = held + c.args.count - 64 in
     let p = put_full c.self.inside.bytes.items held c.self.inside.word c.args.count c.args.word rest c.self.invariant.0 (omega arith) (omega arith) c.self.invariant.1 c.requires.fits in
     let one : 1 * 2 ^ rest % 2 ^ 64 ≡ 2 ^ rest = one_shl rest 64 (omega arith) in
     let mask : bit_and c.args.word (1 * 2 ^ rest % 2 ^ 64 - 1) ≡ c.args.word % 2 ^ rest = ap (λ x. bit_and c.args.word (x - 1)) one ∙ and_mask c.args.word rest in
-    let made : c.extend_from_slice.new.self.items ≡ c.self.inside.bytes.items ++ bytes_high_first 8 (c.self.inside.word * 2 ^ (64 - held) + c.args.word / 2 ^ rest) = (search rules) in
+    let made : c.push_word.new.bytes.items ≡ c.self.inside.bytes.items ++ bytes_high_first 8 (c.self.inside.word * 2 ^ (64 - held) + c.args.word / 2 ^ rest) = (search rules) in
     ap (λ x. bits x ++ digits rest (bit_and c.args.word (1 * 2 ^ rest % 2 ^ 64 - 1))) made ∙ ap (λ x. bits (c.self.inside.bytes.items ++ bytes_high_first 8 (c.self.inside.word * 2 ^ (64 - held) + c.args.word / 2 ^ rest)) ++ digits rest x) mask ∙ p.3 ∙ ap (λ x. x ++ digits c.args.count c.args.word) c.self.view_is
