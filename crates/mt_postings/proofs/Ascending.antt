@@ -19,11 +19,11 @@ tail_positions : (p : ℕ) (ps : List ℕ) → ArePositions (p ∷ ps) → ArePo
 tail_positions p ps a =
     record {
       ascending = λ k s.
-        let x = later p ps k in
-        let y = later p ps (k + 1) in
-        let h = a.ascending (k + 1) (omega arith) in
-        omega arith;
-      in_range = All-tail (λ p. p < 4294967295) p ps a.in_range
+          let x = later p ps k in
+          let y = later p ps (k + 1) in
+          let h = a.ascending (k + 1) (omega arith) in
+          omega arith;
+      in_range = All-tail (λ p. p < 4294967295) p ps a.in_range;
     }
 
 pub from_positions : (least : ℕ) (ps : List ℕ) → ArePositions ps → least ≤ 4294967295 → (0 < length ps → least ≤ get_or ps 0 0) → From least ps
@@ -88,6 +88,6 @@ rest_positions p ps all e a = tail_positions p ps (subst ArePositions e a)
 pub not_below : (ps : List ℕ) (i j : ℕ) → ArePositions ps → i ≤ j → j < length ps → get_or ps i 0 ≤ get_or ps j 0
 not_below ps i j a l m =
     elim (cases_order i j) [
-        inl e ↦ rw e (omega arith)
+      | inl e ↦ rw e (omega arith)
       | inr o ↦ elim o [ inl b ↦ let h = AllPairs-from_increasing ps a.ascending i j 0 b m in omega arith | inr b ↦ absurd (omega arith) ]
     ]

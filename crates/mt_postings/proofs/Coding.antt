@@ -50,7 +50,7 @@ reads_none unread positions n e =
     subst (λ ps. ReadsTo unread.left ps 0 unread.place unread.left) (sym n) (record {
       begins = record { valid = positions_from 0 [] (omega arith); place = e; spelt = refl };
       next = refl;
-      small = omega arith
+      small = omega arith;
     })
 
 pub reads_more : (all : List Bool) (positions now : List ℕ) (least p : ℕ) (old new : Unread) → ReadsTo all positions least old.place old.left → now ≡ positions ++ p ∷ [] → least ≤ p → p < 4294967295 → old.left ≡ delta (p + 1 - least) ++ new.left → new.place ≡ old.place + length (delta (p + 1 - least)) → ReadsTo all now (p + 1) new.place new.left
@@ -65,10 +65,10 @@ reads_more all positions now least p old new r n low high code place =
       begins = record {
         valid = positions_from 0 (positions ++ p ∷ []) (from_push 0 p positions (from_start positions b.valid) (subst (λ x. x ≤ p) r.next low) high);
         place = omega arith;
-        spelt = b.spelt ∙ ap (λ x. codes 0 positions ++ x) code ∙ sym (append_assoc (codes 0 positions) (delta (p + 1 - least)) new.left) ∙ ap (λ x. x ++ new.left) (sym c)
+        spelt = b.spelt ∙ ap (λ x. codes 0 positions ++ x) code ∙ sym (append_assoc (codes 0 positions) (delta (p + 1 - least)) new.left) ∙ ap (λ x. x ++ new.left) (sym c);
       };
       next = sym (next_push 0 p positions);
-      small = omega arith
+      small = omega arith;
     })
 
 -- a code that gives no position ends the reading
@@ -89,18 +89,18 @@ padding_told w left s short =
     let shown : left ++ replicate k false ≡ digits 8 (w / 2 ^ 56) = shows_part 8 w left (omega arith) (omega arith) s in
     let zs : replicate (length left) false ++ replicate k false ≡ replicate 8 false = replicate-append-replicate (length left) k false ∙ ap (λ x. replicate x false) sum in
     by_test (nat_eq (w / 2 ^ 56) 0) refl
-      (λ e. let none : w / 2 ^ 56 ≡ 0 = eqb-true (w / 2 ^ 56) 0 e in
-        (length left, short, append_cancel_right left (replicate (length left) false) (replicate k false) (shown ∙ ap (digits 8) none ∙ digits-zero 8 ∙ sym zs)))
-      (λ e. λ n l z.
-        let m : length left ≡ n = ap length z ∙ length-replicate n false in
-        let same : digits 8 (w / 2 ^ 56) ≡ digits 8 0 = sym shown ∙ ap (λ x. x ++ replicate k false) (z ∙ ap (λ x. replicate x false) (sym m)) ∙ zs ∙ sym (digits-zero 8) in
-        let t = same_from_digits 8 (w / 2 ^ 56) 0 same in
-        let b : w / 2 ^ 56 < 2 ^ 8 = shr_below w 8 56 s.fits in
-        eqb-false (w / 2 ^ 56) 0 e (sym (mod-eq_of_lt b) ∙ t))
-    where
-      by_test : (b : Bool) → nat_eq (w / 2 ^ 56) 0 ≡ b → (b ≡ true → (n : ℕ) × (n < 8) × (left ≡ replicate n false)) → (b ≡ false → (n : ℕ) → n < 8 → left ≡ replicate n false → ⊥) → MatchBool b ((n : ℕ) × (n < 8) × (left ≡ replicate n false)) ((n : ℕ) → n < 8 → left ≡ replicate n false → ⊥)
-      by_test true e t f = t refl
-      by_test false e t f = f refl
+    (λ e. let none : w / 2 ^ 56 ≡ 0 = eqb-true (w / 2 ^ 56) 0 e in
+    (length left, short, append_cancel_right left (replicate (length left) false) (replicate k false) (shown ∙ ap (digits 8) none ∙ digits-zero 8 ∙ sym zs)))
+    (λ e. λ n l z.
+    let m : length left ≡ n = ap length z ∙ length-replicate n false in
+    let same : digits 8 (w / 2 ^ 56) ≡ digits 8 0 = sym shown ∙ ap (λ x. x ++ replicate k false) (z ∙ ap (λ x. replicate x false) (sym m)) ∙ zs ∙ sym (digits-zero 8) in
+    let t = same_from_digits 8 (w / 2 ^ 56) 0 same in
+    let b : w / 2 ^ 56 < 2 ^ 8 = shr_below w 8 56 s.fits in
+    eqb-false (w / 2 ^ 56) 0 e (sym (mod-eq_of_lt b) ∙ t))
+  where
+    by_test : (b : Bool) → nat_eq (w / 2 ^ 56) 0 ≡ b → (b ≡ true → (n : ℕ) × (n < 8) × (left ≡ replicate n false)) → (b ≡ false → (n : ℕ) → n < 8 → left ≡ replicate n false → ⊥) → MatchBool b ((n : ℕ) × (n < 8) × (left ≡ replicate n false)) ((n : ℕ) → n < 8 → left ≡ replicate n false → ⊥)
+    by_test true e t f = t refl
+    by_test false e t f = f refl
 
 pub no_padding : (left : List Bool) → 8 ≤ length left → (n : ℕ) → n < 8 → left ≡ replicate n false → ⊥
 no_padding left l n s e =
@@ -118,9 +118,9 @@ record Front (least : ℕ) (a b : List ℕ) (r s : List Bool) : Type 0 where
 
 front_more : (least x y : ℕ) (a b : List ℕ) (r s : List Bool) → y ≡ x → Front (x + 1) a b r s → Front least (x ∷ a) (y ∷ b) r s
 front_more least x y a b r s e t = record { rest = t.rest; whole = cons_same e t.whole; from = t.from; left = t.left }
-    where
-      cons_same : {p q : ℕ} {c d : List ℕ} → p ≡ q → c ≡ d → p ∷ c ≡ q ∷ d
-      cons_same e f = cc
+  where
+    cons_same : {p q : ℕ} {c d : List ℕ} → p ≡ q → c ≡ d → p ∷ c ≡ q ∷ d
+    cons_same e f = cc
 
 -- the first numbers of two lists are the same where their codes are
 first_same : (least x y : ℕ) (a b : List ℕ) (r s : List Bool) → least ≤ x → least ≤ y → codes least (x ∷ a) ++ r ≡ codes least (y ∷ b) ++ s → (y ≡ x) × (codes (x + 1) a ++ r ≡ codes (x + 1) b ++ s)
@@ -167,25 +167,26 @@ no_longer : (a b : List ℕ) (r s : List Bool) → ArePositions a → ArePositio
 unfolding Stuck
 no_longer a b r s va vb e stuck =
     elim (cases_lt (length a) (length b)) [
-        inl l ↦
+      | inl l ↦
           let f = front 0 a b r s (from_start a va) (from_start b vb) e (omega arith) in
           let n : length b ≡ length a + length f.rest = ap length f.whole ∙ length-append a f.rest in
           absurd (follows f.rest (omega arith) f.from f.left)
       | inr g ↦ g
     ]
-    where
-      follows : (rest : List ℕ) → 0 < length rest → From (next_least 0 a) rest → r ≡ codes (next_least 0 a) rest ++ s → ⊥
-      follows [] n f h = omega arith
-      follows (p ∷ ps) n f h = stuck p (codes (p + 1) ps ++ s) f.0 f.1 (h ∙ append_assoc (delta (p + 1 - next_least 0 a)) (codes (p + 1) ps) s)
+  where
+    follows : (rest : List ℕ) → 0 < length rest → From (next_least 0 a) rest → r ≡ codes (next_least 0 a) rest ++ s → ⊥
+    follows [] n f h = omega arith
+    follows (p ∷ ps) n f h = stuck p (codes (p + 1) ps ++ s) f.0 f.1 (h ∙ append_assoc (delta (p + 1 - next_least 0 a)) (codes (p + 1) ps) s)
 
 -- lists of one length are one, and leave the same
 same_lists : (a b : List ℕ) (r s : List Bool) → ArePositions a → ArePositions b → codes 0 a ++ r ≡ codes 0 b ++ s → length a ≡ length b → (a ≡ b) × (r ≡ s)
 same_lists a b r s va vb e l =
     let f = front 0 a b r s (from_start a va) (from_start b vb) e (omega arith) in
     let n : length b ≡ length a + length f.rest = ap length f.whole ∙ length-append a f.rest in
-    let none : f.rest ≡ [] = nil_from_length f.rest (omega arith) in
-    ( sym (f.whole ∙ ap (λ x. a ++ x) none ∙ append-nil a)
-    , f.left ∙ ap (λ x. codes (next_least 0 a) x ++ s) none)
+    let none : f.rest ≡ [] = nil_from_length f.rest (omega arith) in (
+      sym (f.whole ∙ ap (λ x. a ++ x) none ∙ append-nil a),
+      f.left ∙ ap (λ x. codes (next_least 0 a) x ++ s) none,
+    )
 
 -- one byte list has at most one list of so many positions
 pub one_list : (bytes : List ℕ) (a b : List ℕ) → IsCode bytes a → IsCode bytes b → length a ≡ length b → a ≡ b
@@ -206,9 +207,9 @@ large_stops count all bit h =
       begins = h.begins;
       fewer = h.fewer;
       stuck = elim h.large [
-          inl l ↦ large_stuck (next_least 0 h.before) h.left l
+        | inl l ↦ large_stuck (next_least 0 h.before) h.left l
         | inr p ↦ past_stuck (next_least 0 h.before) h.left (next_from 0 h.before (from_start h.before h.begins.valid)) p
-      ]
+      ];
     }
 
 cut_stops : (count : ℕ) (all : List Bool) (bit : ℕ) (h : IsCutAt count all bit) → Stops count all bit h.left
@@ -238,7 +239,7 @@ large_or_cut : (count : ℕ) (all : List Bool) (bit bit' : ℕ) → IsTooLargeAt
 large_or_cut count all bit bit' h k =
     let o = one_stop count all bit bit' h.left k.left (large_stops count all bit h) (cut_stops count all bit' k) in
     elim h.large [
-        inl l ↦ k.cut.no_larger (subst IsTooLarge o.1 l)
+      | inl l ↦ k.cut.no_larger (subst IsTooLarge o.1 l)
       | inr p ↦
           let n = next_from 0 h.before (from_start h.before h.begins.valid) in
           let b = p.passes in
@@ -353,7 +354,7 @@ writes_more all written now least p n left rest w e m new =
     let gap : p + 1 - least ≡ n = omega arith in
     record {
       from = f.2;
-      spelt = ap (λ x. x ++ codes (p + 1) rest) new ∙ append_assoc written (delta n) (codes (p + 1) rest) ∙ ap (λ x. written ++ (delta x ++ codes (p + 1) rest)) (sym gap) ∙ ap (λ x. written ++ codes least x) (sym e) ∙ w.spelt
+      spelt = ap (λ x. x ++ codes (p + 1) rest) new ∙ append_assoc written (delta n) (codes (p + 1) rest) ∙ ap (λ x. written ++ (delta x ++ codes (p + 1) rest)) (sym gap) ∙ ap (λ x. written ++ codes least x) (sym e) ∙ w.spelt;
     }
 
 pub writes_all : (ps : List ℕ) (bytes : List ℕ) (written : List Bool) (least : ℕ) (left : List ℕ) → ArePositions ps → WritesTo (codes 0 ps) written least left → left ≡ [] → (padding : ℕ) × (padding < 8) × (bits bytes ≡ written ++ replicate padding false) → IsCode bytes ps

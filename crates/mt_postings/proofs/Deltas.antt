@@ -16,7 +16,7 @@ unfolding halvings
 halvings_bounds zero n h k = absurd (omega arith)
 halvings_bounds (suc most) n h k =
     elim (cases_lt n 2) [
-        inl l ↦ grind (arith, nat_tests)
+      | inl l ↦ grind (arith, nat_tests)
       | inr g ↦
           let r = halvings_bounds most (n / 2) (omega arith) (omega arith) in
           let e = pow_more (halvings most (n / 2)) in
@@ -32,14 +32,14 @@ log2_bounds n h = halvings_bounds n n (omega arith) h
 pow_above : (i j : ℕ) → i < j → 2 ^ (i + 1) ≤ 2 ^ j
 pow_above i j h =
     elim (cases_order (i + 1) j) [
-        inl e ↦ rw e (omega arith)
+      | inl e ↦ rw e (omega arith)
       | inr o ↦ elim o [ inl l ↦ let b = pow_below (i + 1) j l in omega arith | inr g ↦ absurd (omega arith) ]
     ]
 
 pub pow_monotone : (i j : ℕ) → i ≤ j → 2 ^ i ≤ 2 ^ j
 pow_monotone i j h =
     elim (cases_order i j) [
-        inl e ↦ rw e (omega arith)
+      | inl e ↦ rw e (omega arith)
       | inr o ↦ elim o [ inl l ↦ let b = pow_below i j l in omega arith | inr g ↦ absurd (omega arith) ]
     ]
 
@@ -47,11 +47,11 @@ pow_monotone i j h =
 pub same_power : (i j n : ℕ) → 2 ^ i ≤ n → n < 2 ^ (i + 1) → 2 ^ j ≤ n → n < 2 ^ (j + 1) → i ≡ j
 same_power i j n a b c d =
     elim (cases_order i j) [
-        inl e ↦ e
+      | inl e ↦ e
       | inr o ↦ elim o [
-            inl l ↦ let p = pow_above i j l in absurd (omega arith)
-          | inr g ↦ let p = pow_above j i g in absurd (omega arith)
-        ]
+        | inl l ↦ let p = pow_above i j l in absurd (omega arith)
+        | inr g ↦ let p = pow_above j i g in absurd (omega arith)
+      ]
     ]
 
 pub log2_is : (k n : ℕ) → 2 ^ k ≤ n → n < 2 ^ (k + 1) → log2 n ≡ k

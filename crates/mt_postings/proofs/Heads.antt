@@ -43,7 +43,7 @@ word_moved word skip all s there e =
     let last : drop skip a ≡ drop skip all ++ replicate 64 false = drop-append-le skip all (replicate 64 false) there in
     record {
       fits = mod_below x (2 ^ 64) (pow_pos 64);
-      same = ap (take 57) (low ∙ sym left ∙ cut) ∙ front ∙ ap (take 57) inner ∙ short ∙ ap (take 57) last
+      same = ap (take 57) (low ∙ sym left ∙ cut) ∙ front ∙ ap (take 57) inner ∙ short ∙ ap (take 57) last;
     }
 
 -- the first digits of the word are the first bits, with zeros after the last
@@ -77,9 +77,9 @@ pub record Head (w z : ℕ) : Type 0 where
 pub head_of : (w r : ℕ) → 2 ^ r ≤ w → w < 2 * 2 ^ r → r < 64 → (w / 2 ^ 58 ≡ 0 → ⊥) → Head w (63 - r)
 head_of w r a b c d =
     let big : 58 ≤ r = elim (cases_lt r 58) [
-            inl l ↦ let p = pow_monotone (r + 1) 58 (omega arith) in let q = pow_more r in absurd (d (omega arith))
-          | inr g ↦ g
-        ] in
+      | inl l ↦ let p = pow_monotone (r + 1) 58 (omega arith) in let q = pow_more r in absurd (d (omega arith))
+      | inr g ↦ g
+    ] in
     let e : 63 - (63 - r) ≡ r = omega arith in
     let f : 64 - (63 - r) ≡ r + 1 = omega arith in
     let q = pow_more r in
@@ -135,7 +135,7 @@ code_value w z g h is small =
       above = omega arith;
       positive = omega arith;
       fits = omega arith;
-      code = d ∙ ap (digits len) sum
+      code = d ∙ ap (digits len) sum;
     }
 
 -- ---- the answers
@@ -169,7 +169,7 @@ cut_gamma left g p few short e =
       positive = pos;
       inside = zeros_some (length (gamma g) - length left) (digits (log2 n) n) (omega arith);
       code = code;
-      no_larger = not_large left (zs ++ digits (log2 n) n) (digits (log2 n) n) g p few code' (inr short)
+      no_larger = not_large left (zs ++ digits (log2 n) n) (digits (log2 n) n) g p few code' (inr short);
     }
 
 -- the bits end inside a code
@@ -184,7 +184,7 @@ cut_code left n k p u some e =
       positive = p;
       inside = λ x. zeros_some k [] some (append-nil (replicate k false) ∙ x);
       code = e;
-      no_larger = not_large left (replicate k false) (digits (log2 n) n) (log2 n + 1) (omega arith) fewer e (inl (omega arith))
+      no_larger = not_large left (replicate k false) (digits (log2 n) n) (log2 n + 1) (omega arith) fewer e (inl (omega arith));
     }
 
 -- fewer than six zeros may begin the code of a number of 32 digits
@@ -210,7 +210,7 @@ few_zeros_cut left n zs short low high =
       positive = omega arith;
       inside = λ x. one_left gap (digits (log2 g) g ++ rest) x;
       code = whole;
-      no_larger = not_large left (gap ++ end) rest g (omega arith) (omega arith) whole (inl (omega arith))
+      no_larger = not_large left (gap ++ end) rest g (omega arith) (omega arith) whole (inl (omega arith));
     }
 
 pub zeros_cut : (w : ℕ) (left : List Bool) → Shows w left → w / 2 ^ 58 ≡ 0 → length left < 6 → IsCut left
@@ -264,7 +264,7 @@ length-take-short n xs = let l = length-take n xs in omega arith
 all_bytes_taken : (bytes : List ℕ) → ((i : ℕ) → get_or bytes i 0 < 256) → (i : ℕ) → get_or (take 8 bytes) i 0 < 256
 all_bytes_taken bytes small i =
     elim (cases_lt i 8) [
-        inl l ↦ subst (λ x. x < 256) (sym (get_or-take 8 bytes i 0 l)) (small i)
+      | inl l ↦ subst (λ x. x < 256) (sym (get_or-take 8 bytes i 0 l)) (small i)
       | inr g ↦ let l = length-take-short 8 bytes in subst (λ x. x < 256) (sym (get_or_past (take 8 bytes) i 0 (omega arith))) (omega arith)
     ]
 
@@ -287,11 +287,11 @@ bits-zeros (suc n) =
 all_bytes_padded : (bytes : List ℕ) (k : ℕ) → ((i : ℕ) → get_or bytes i 0 < 256) → (i : ℕ) → get_or (bytes ++ replicate k 0) i 0 < 256
 all_bytes_padded bytes k small i =
     elim (cases_lt i (length bytes)) [
-        inl l ↦ subst (λ x. x < 256) (sym (get_or_append_left bytes (replicate k 0) 0 i l)) (small i)
+      | inl l ↦ subst (λ x. x < 256) (sym (get_or_append_left bytes (replicate k 0) 0 i l)) (small i)
       | inr g ↦ elim (cases_lt (i - length bytes) k) [
-            inl m ↦ subst (λ x. x < 256) (sym (get_or-append_right bytes (replicate k 0) (length bytes) i 0 refl g ∙ get_or-replicate k (i - length bytes) 0 0 m)) (omega arith)
-          | inr n ↦ let l = length-append bytes (replicate k 0) in let r = length-replicate {A = ℕ} k 0 in subst (λ x. x < 256) (sym (get_or_past (bytes ++ replicate k 0) i 0 (omega arith))) (omega arith)
-        ]
+        | inl m ↦ subst (λ x. x < 256) (sym (get_or-append_right bytes (replicate k 0) (length bytes) i 0 refl g ∙ get_or-replicate k (i - length bytes) 0 0 m)) (omega arith)
+        | inr n ↦ let l = length-append bytes (replicate k 0) in let r = length-replicate {A = ℕ} k 0 in subst (λ x. x < 256) (sym (get_or_past (bytes ++ replicate k 0) i 0 (omega arith))) (omega arith)
+      ]
     ]
 
 -- and of fewer

@@ -49,20 +49,20 @@ either most (a ∷ l) [] x e h = inl h
 either zero (a ∷ l) (b ∷ r) x e h = absurd (omega arith)
 either (suc most) (a ∷ l) (b ∷ r) x e h =
     elim (cases_order a b) [
-        inl s ↦ elim (subst (λ m. Has m x) (merge_both most a b l r s) h) [
-            inl f ↦ inl (inl f)
-          | inr t ↦ elim (either most l r x (omega arith) t) [ inl u ↦ inl (inr u) | inr u ↦ inr (inr u) ]
-        ]
+      | inl s ↦ elim (subst (λ m. Has m x) (merge_both most a b l r s) h) [
+        | inl f ↦ inl (inl f)
+        | inr t ↦ elim (either most l r x (omega arith) t) [ inl u ↦ inl (inr u) | inr u ↦ inr (inr u) ]
+      ]
       | inr o ↦ elim o [
-            inl s ↦ elim (subst (λ m. Has m x) (merge_left most a b l r s) h) [
-                inl f ↦ inl (inl f)
-              | inr t ↦ elim (either most l (b ∷ r) x (omega arith) t) [ inl u ↦ inl (inr u) | inr u ↦ inr u ]
-            ]
-          | inr s ↦ elim (subst (λ m. Has m x) (merge_right most a b l r s) h) [
-                inl f ↦ inr (inl f)
-              | inr t ↦ elim (either most (a ∷ l) r x (omega arith) t) [ inl u ↦ inl u | inr u ↦ inr (inr u) ]
-            ]
+        | inl s ↦ elim (subst (λ m. Has m x) (merge_left most a b l r s) h) [
+          | inl f ↦ inl (inl f)
+          | inr t ↦ elim (either most l (b ∷ r) x (omega arith) t) [ inl u ↦ inl (inr u) | inr u ↦ inr u ]
         ]
+        | inr s ↦ elim (subst (λ m. Has m x) (merge_right most a b l r s) h) [
+          | inl f ↦ inr (inl f)
+          | inr t ↦ elim (either most (a ∷ l) r x (omega arith) t) [ inl u ↦ inl u | inr u ↦ inr (inr u) ]
+        ]
+      ]
     ]
 
 of_left : (most : ℕ) (l r : List ℕ) (x : ℕ) → length l + length r ≤ most → Has l x → Has (merge most l r) x
@@ -71,11 +71,11 @@ of_left most (a ∷ l) [] x e h = h
 of_left zero (a ∷ l) (b ∷ r) x e h = absurd (omega arith)
 of_left (suc most) (a ∷ l) (b ∷ r) x e h =
     elim (cases_order a b) [
-        inl s ↦ subst (λ m. Has m x) (sym (merge_both most a b l r s)) (elim h [ inl f ↦ inl f | inr t ↦ inr (of_left most l r x (omega arith) t) ])
+      | inl s ↦ subst (λ m. Has m x) (sym (merge_both most a b l r s)) (elim h [ inl f ↦ inl f | inr t ↦ inr (of_left most l r x (omega arith) t) ])
       | inr o ↦ elim o [
-            inl s ↦ subst (λ m. Has m x) (sym (merge_left most a b l r s)) (elim h [ inl f ↦ inl f | inr t ↦ inr (of_left most l (b ∷ r) x (omega arith) t) ])
-          | inr s ↦ subst (λ m. Has m x) (sym (merge_right most a b l r s)) (inr (of_left most (a ∷ l) r x (omega arith) h))
-        ]
+        | inl s ↦ subst (λ m. Has m x) (sym (merge_left most a b l r s)) (elim h [ inl f ↦ inl f | inr t ↦ inr (of_left most l (b ∷ r) x (omega arith) t) ])
+        | inr s ↦ subst (λ m. Has m x) (sym (merge_right most a b l r s)) (inr (of_left most (a ∷ l) r x (omega arith) h))
+      ]
     ]
 
 of_right : (most : ℕ) (l r : List ℕ) (x : ℕ) → length l + length r ≤ most → Has r x → Has (merge most l r) x
@@ -84,18 +84,19 @@ of_right most (a ∷ l) [] x e h = absurd h
 of_right zero (a ∷ l) (b ∷ r) x e h = absurd (omega arith)
 of_right (suc most) (a ∷ l) (b ∷ r) x e h =
     elim (cases_order a b) [
-        inl s ↦ subst (λ m. Has m x) (sym (merge_both most a b l r s)) (elim h [ inl f ↦ inl (s ∙ f) | inr t ↦ inr (of_right most l r x (omega arith) t) ])
+      | inl s ↦ subst (λ m. Has m x) (sym (merge_both most a b l r s)) (elim h [ inl f ↦ inl (s ∙ f) | inr t ↦ inr (of_right most l r x (omega arith) t) ])
       | inr o ↦ elim o [
-            inl s ↦ subst (λ m. Has m x) (sym (merge_left most a b l r s)) (inr (of_right most l (b ∷ r) x (omega arith) h))
-          | inr s ↦ subst (λ m. Has m x) (sym (merge_right most a b l r s)) (elim h [ inl f ↦ inl f | inr t ↦ inr (of_right most (a ∷ l) r x (omega arith) t) ])
-        ]
+        | inl s ↦ subst (λ m. Has m x) (sym (merge_left most a b l r s)) (inr (of_right most l (b ∷ r) x (omega arith) h))
+        | inr s ↦ subst (λ m. Has m x) (sym (merge_right most a b l r s)) (elim h [ inl f ↦ inl f | inr t ↦ inr (of_right most (a ∷ l) r x (omega arith) t) ])
+      ]
     ]
 
 pub merge_members : (l r : List ℕ) (x : ℕ) → Contains (merge (length l + length r) l r) x ↔ (Contains l x ⊎ Contains r x)
 merge_members l r x =
-    let m = length l + length r in
-    ( λ c. elim (either m l r x (omega arith) ((has_is (merge m l r) x).1 c)) [ inl h ↦ inl ((has_is l x).0 h) | inr h ↦ inr ((has_is r x).0 h) ]
-    , λ c. (has_is (merge m l r) x).0 (elim c [ inl h ↦ of_left m l r x (omega arith) ((has_is l x).1 h) | inr h ↦ of_right m l r x (omega arith) ((has_is r x).1 h) ]))
+    let m = length l + length r in (
+      λ c. elim (either m l r x (omega arith) ((has_is (merge m l r) x).1 c)) [ inl h ↦ inl ((has_is l x).0 h) | inr h ↦ inr ((has_is r x).0 h) ],
+      λ c. (has_is (merge m l r) x).0 (elim c [ inl h ↦ of_left m l r x (omega arith) ((has_is l x).1 h) | inr h ↦ of_right m l r x (omega arith) ((has_is r x).1 h) ]),
+    )
 
 merge_from : (most least : ℕ) (l r : List ℕ) → length l + length r ≤ most → From least l → From least r → From least (merge most l r)
 merge_from most least [] r e f g = g
@@ -103,11 +104,11 @@ merge_from most least (a ∷ l) [] e f g = f
 merge_from zero least (a ∷ l) (b ∷ r) e f g = absurd (omega arith)
 merge_from (suc most) least (a ∷ l) (b ∷ r) e f g =
     elim (cases_order a b) [
-        inl s ↦ subst (From least) (sym (merge_both most a b l r s)) (f.0, f.1, merge_from most (a + 1) l r (omega arith) f.2 (subst (λ x. From (x + 1) r) (sym s) g.2))
+      | inl s ↦ subst (From least) (sym (merge_both most a b l r s)) (f.0, f.1, merge_from most (a + 1) l r (omega arith) f.2 (subst (λ x. From (x + 1) r) (sym s) g.2))
       | inr o ↦ elim o [
-            inl s ↦ subst (From least) (sym (merge_left most a b l r s)) (f.0, f.1, merge_from most (a + 1) l (b ∷ r) (omega arith) f.2 (omega arith, g.1, g.2))
-          | inr s ↦ subst (From least) (sym (merge_right most a b l r s)) (g.0, g.1, merge_from most (b + 1) (a ∷ l) r (omega arith) (omega arith, f.1, f.2) g.2)
-        ]
+        | inl s ↦ subst (From least) (sym (merge_left most a b l r s)) (f.0, f.1, merge_from most (a + 1) l (b ∷ r) (omega arith) f.2 (omega arith, g.1, g.2))
+        | inr s ↦ subst (From least) (sym (merge_right most a b l r s)) (g.0, g.1, merge_from most (b + 1) (a ∷ l) r (omega arith) (omega arith, f.1, f.2) g.2)
+      ]
     ]
 
 pub merge_positions : (l r : List ℕ) → ArePositions l → ArePositions r → ArePositions (merge (length l + length r) l r)
@@ -125,36 +126,36 @@ merged_none left right = record { most = length left + length right; enough = om
 -- one number more, where the first is less, the second is, or both are the same
 more_left : (all left right : List ℕ) (i j : ℕ) → i < length left → j < length right → get_or left i 0 < get_or right j 0 → Merged all left right i j → Merged (all ++ get_or left i 0 ∷ []) left right (i + 1) j
 more_left all left right i j li lj s m = with_most m.most m.enough m.same
-    where
-      with_most : (most : ℕ) → (length left - i) + (length right - j) ≤ most → all ++ merge most (drop i left) (drop j right) ≡ merge (length left + length right) left right → Merged (all ++ get_or left i 0 ∷ []) left right (i + 1) j
-      with_most zero e h = absurd (omega arith)
-      with_most (suc most) e h =
-          let dl = drop_more left i 0 li in
-          let dr = drop_more right j 0 lj in
-          let step : merge (suc most) (drop i left) (drop j right) ≡ get_or left i 0 ∷ merge most (drop (i + 1) left) (drop j right) = rw (dl, dr) (merge_left most (get_or left i 0) (get_or right j 0) (drop (i + 1) left) (drop (j + 1) right) s) in
-          record { most = most; enough = omega arith; same = append_assoc all (get_or left i 0 ∷ []) (merge most (drop (i + 1) left) (drop j right)) ∙ ap (λ x. all ++ x) (sym step) ∙ h }
+  where
+    with_most : (most : ℕ) → (length left - i) + (length right - j) ≤ most → all ++ merge most (drop i left) (drop j right) ≡ merge (length left + length right) left right → Merged (all ++ get_or left i 0 ∷ []) left right (i + 1) j
+    with_most zero e h = absurd (omega arith)
+    with_most (suc most) e h =
+        let dl = drop_more left i 0 li in
+        let dr = drop_more right j 0 lj in
+        let step : merge (suc most) (drop i left) (drop j right) ≡ get_or left i 0 ∷ merge most (drop (i + 1) left) (drop j right) = rw (dl, dr) (merge_left most (get_or left i 0) (get_or right j 0) (drop (i + 1) left) (drop (j + 1) right) s) in
+        record { most = most; enough = omega arith; same = append_assoc all (get_or left i 0 ∷ []) (merge most (drop (i + 1) left) (drop j right)) ∙ ap (λ x. all ++ x) (sym step) ∙ h }
 
 more_right : (all left right : List ℕ) (i j : ℕ) → i < length left → j < length right → get_or right j 0 < get_or left i 0 → Merged all left right i j → Merged (all ++ get_or right j 0 ∷ []) left right i (j + 1)
 more_right all left right i j li lj s m = with_most m.most m.enough m.same
-    where
-      with_most : (most : ℕ) → (length left - i) + (length right - j) ≤ most → all ++ merge most (drop i left) (drop j right) ≡ merge (length left + length right) left right → Merged (all ++ get_or right j 0 ∷ []) left right i (j + 1)
-      with_most zero e h = absurd (omega arith)
-      with_most (suc most) e h =
-          let dl = drop_more left i 0 li in
-          let dr = drop_more right j 0 lj in
-          let step : merge (suc most) (drop i left) (drop j right) ≡ get_or right j 0 ∷ merge most (drop i left) (drop (j + 1) right) = rw (dl, dr) (merge_right most (get_or left i 0) (get_or right j 0) (drop (i + 1) left) (drop (j + 1) right) s) in
-          record { most = most; enough = omega arith; same = append_assoc all (get_or right j 0 ∷ []) (merge most (drop i left) (drop (j + 1) right)) ∙ ap (λ x. all ++ x) (sym step) ∙ h }
+  where
+    with_most : (most : ℕ) → (length left - i) + (length right - j) ≤ most → all ++ merge most (drop i left) (drop j right) ≡ merge (length left + length right) left right → Merged (all ++ get_or right j 0 ∷ []) left right i (j + 1)
+    with_most zero e h = absurd (omega arith)
+    with_most (suc most) e h =
+        let dl = drop_more left i 0 li in
+        let dr = drop_more right j 0 lj in
+        let step : merge (suc most) (drop i left) (drop j right) ≡ get_or right j 0 ∷ merge most (drop i left) (drop (j + 1) right) = rw (dl, dr) (merge_right most (get_or left i 0) (get_or right j 0) (drop (i + 1) left) (drop (j + 1) right) s) in
+        record { most = most; enough = omega arith; same = append_assoc all (get_or right j 0 ∷ []) (merge most (drop i left) (drop (j + 1) right)) ∙ ap (λ x. all ++ x) (sym step) ∙ h }
 
 more_both : (all left right : List ℕ) (i j : ℕ) → i < length left → j < length right → get_or left i 0 ≡ get_or right j 0 → Merged all left right i j → Merged (all ++ get_or left i 0 ∷ []) left right (i + 1) (j + 1)
 more_both all left right i j li lj s m = with_most m.most m.enough m.same
-    where
-      with_most : (most : ℕ) → (length left - i) + (length right - j) ≤ most → all ++ merge most (drop i left) (drop j right) ≡ merge (length left + length right) left right → Merged (all ++ get_or left i 0 ∷ []) left right (i + 1) (j + 1)
-      with_most zero e h = absurd (omega arith)
-      with_most (suc most) e h =
-          let dl = drop_more left i 0 li in
-          let dr = drop_more right j 0 lj in
-          let step : merge (suc most) (drop i left) (drop j right) ≡ get_or left i 0 ∷ merge most (drop (i + 1) left) (drop (j + 1) right) = rw (dl, dr) (merge_both most (get_or left i 0) (get_or right j 0) (drop (i + 1) left) (drop (j + 1) right) s) in
-          record { most = most; enough = omega arith; same = append_assoc all (get_or left i 0 ∷ []) (merge most (drop (i + 1) left) (drop (j + 1) right)) ∙ ap (λ x. all ++ x) (sym step) ∙ h }
+  where
+    with_most : (most : ℕ) → (length left - i) + (length right - j) ≤ most → all ++ merge most (drop i left) (drop j right) ≡ merge (length left + length right) left right → Merged (all ++ get_or left i 0 ∷ []) left right (i + 1) (j + 1)
+    with_most zero e h = absurd (omega arith)
+    with_most (suc most) e h =
+        let dl = drop_more left i 0 li in
+        let dr = drop_more right j 0 lj in
+        let step : merge (suc most) (drop i left) (drop j right) ≡ get_or left i 0 ∷ merge most (drop (i + 1) left) (drop (j + 1) right) = rw (dl, dr) (merge_both most (get_or left i 0) (get_or right j 0) (drop (i + 1) left) (drop (j + 1) right) s) in
+        record { most = most; enough = omega arith; same = append_assoc all (get_or left i 0 ∷ []) (merge most (drop (i + 1) left) (drop (j + 1) right)) ∙ ap (λ x. all ++ x) (sym step) ∙ h }
 
 pub merged_more : (all left right : List ℕ) (i j : ℕ) → i < length left → j < length right → Merged all left right i j → (x y : Bool) → x ≡ leb (get_or left i 0) (get_or right j 0) → y ≡ leb (get_or right j 0) (get_or left i 0) → (i + bool_byte x ≤ length left) × (j + bool_byte y ≤ length right) × (i + j + 1 ≤ i + bool_byte x + (j + bool_byte y)) × Merged (all ++ min (get_or left i 0) (get_or right j 0) ∷ []) left right (i + bool_byte x) (j + bool_byte y)
 merged_more all left right i j li lj m true true ex ey =
@@ -216,16 +217,16 @@ told least (x ∷ a) (y ∷ b) f g to fro =
     let same : x ≡ y = omega arith in
     let g' : From (x + 1) b = subst (λ z. From (z + 1) b) (sym same) g.2 in
     let rest : a ≡ b = told (x + 1) a b f.2 g'
-      (λ z h. later_has y z b (let k = has_least (x + 1) a z f.2 h in omega arith) (to z (inr h)))
-      (λ z h. later_has x z a (let k = has_least (x + 1) b z g' h in omega arith) (fro z (inr h))) in
+    (λ z h. later_has y z b (let k = has_least (x + 1) a z f.2 h in omega arith) (to z (inr h)))
+    (λ z h. later_has x z a (let k = has_least (x + 1) b z g' h in omega arith) (fro z (inr h))) in
     cc
-    where
-      bound : (x y : ℕ) → (x ≡ y) ⊎ (x + 1 ≤ y) → x ≤ y
-      bound x y (inl e) = omega arith
-      bound x y (inr l) = omega arith
+  where
+    bound : (x y : ℕ) → (x ≡ y) ⊎ (x + 1 ≤ y) → x ≤ y
+    bound x y (inl e) = omega arith
+    bound x y (inr l) = omega arith
 
 pub told_by_members : (a b : List ℕ) → ArePositions a → ArePositions b → ((p : ℕ) → Contains a p ↔ Contains b p) → a ≡ b
 told_by_members a b f g same =
     told 0 a b (from_start a f) (from_start b g)
-      (λ x h. (has_is b x).1 ((same x).0 ((has_is a x).0 h)))
-      (λ x h. (has_is a x).1 ((same x).1 ((has_is b x).0 h)))
+    (λ x h. (has_is b x).1 ((same x).0 ((has_is a x).0 h)))
+    (λ x h. (has_is a x).1 ((same x).1 ((has_is b x).0 h)))

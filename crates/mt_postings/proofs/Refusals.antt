@@ -19,7 +19,7 @@ pub log2_below : (k n : ℕ) → 1 ≤ n → n < 2 ^ k → log2 n < k
 log2_below k n p h =
     let b = log2_bounds n p in
     elim (cases_order (log2 n) k) [
-        inl e ↦ let f : 2 ^ k ≤ n = subst (λ x. 2 ^ x ≤ n) e b.0 in absurd (omega arith)
+      | inl e ↦ let f : 2 ^ k ≤ n = subst (λ x. 2 ^ x ≤ n) e b.0 in absurd (omega arith)
       | inr o ↦ elim o [ inl l ↦ l | inr g ↦ let q = pow_below k (log2 n) g in absurd (omega arith) ]
     ]
 

@@ -38,7 +38,7 @@ power_le : (i n : ℕ) → 1 ≤ n → 2 ^ i ≤ n → i ≤ log2 n
 power_le i n p h =
     let b = log2_bounds n p in
     elim (cases_lt i (log2 n + 1)) [
-        inl l ↦ omega arith
+      | inl l ↦ omega arith
       | inr g ↦ let m = pow_monotone (log2 n + 1) i g in absurd (omega arith)
     ]
 

@@ -47,7 +47,13 @@ fn reach<L: Ledger>(positions: &[u32], least: u32, steps: &mut Steps<L>) -> usiz
 }
 
 /// How many positions are below `least`, where those before `low` are, and those from `high` on are not.
-fn search<L: Ledger>(positions: &[u32], least: u32, low: usize, high: usize, steps: &mut Steps<L>) -> usize
+fn search<L: Ledger>(
+    positions: &[u32],
+    least: u32,
+    low: usize,
+    high: usize,
+    steps: &mut Steps<L>,
+) -> usize
     requires valid { ArePositions positions.now }
     requires order { low ≤ high }
     requires within { high ≤ length positions.now }

@@ -27,7 +27,11 @@ fn next_position(reader: &mut BitReader<'_>, least: u32) -> Result<u32, DecodeEr
 }
 
 /// The first `count` positions.
-fn read_positions(alloc: Global, count: u32, reader: &mut BitReader<'_>) -> Result<Vec<u32>, DecodeError>
+fn read_positions(
+    alloc: Global,
+    count: u32,
+    reader: &mut BitReader<'_>,
+) -> Result<Vec<u32>, DecodeError>
     requires { reader.old.place ≡ 0 }
     ensures ok { IfOk result (λ p. BeginsWith reader.old.left p.items reader.new.place reader.new.left) }
     ensures number { IfOk result (λ p. length p.items ≡ count) }

@@ -11,20 +11,17 @@ use std::alloc::Global;
 /// Bytes are the code of at most one list of so many positions.
 pub fn have_one_list()
     ensures { HaveOneList }
-{
-}
+{}
 
 /// A posting list has one code.
 pub fn has_one_code()
     ensures { HasOneCode }
-{
-}
+{}
 
 /// Ascending lists with the same positions are one.
 pub fn told_by_members()
     ensures { AreToldByMembers }
-{
-}
+{}
 
 /// A list that is coded and read again is the same: only memory can be wanting.
 pub fn read_back(alloc: Global, postings: &Postings) -> Result<Postings, NoMemory>

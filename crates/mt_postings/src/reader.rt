@@ -78,7 +78,11 @@ impl<'a> BitReader<'a> {
         let left = 8 * self.bytes.len() as u64 - self.at;
         let word = self.word();
         if word >> 58 == 0 {
-            return if left < 6 { Err(CodeError::Cut(self.at)) } else { Err(CodeError::TooLarge(self.at)) };
+            return if left < 6 {
+                Err(CodeError::Cut(self.at))
+            } else {
+                Err(CodeError::TooLarge(self.at))
+            };
         }
         let top = word.ilog2();
         let head = 2 * (63 - top) + 1;

@@ -85,7 +85,10 @@ fn a_thousand_positions(rt: HostRuntime) -> Result<(), Fail> {
     bytes[0] = 0xa2;
     bytes[499] = 0x20;
     match Postings::decode(rt.alloc(), 1000, &bytes) {
-        Ok(list) => assert_eq!(rt; sought::<Brand>(&list, Blank::new(1)), [Some(1502), Some(1504), None]),
+        Ok(list) => assert_eq!(rt;
+            sought::<Brand>(&list, Blank::new(1)),
+            [Some(1502), Some(1504), None]
+        ),
         Err(refusal) => assert_eq!(rt; refusal, DecodeError::NoMemory),
     }
     Ok(())

@@ -106,7 +106,11 @@ impl BitWriter {
     pub fn finish(self) -> List<u8>
         ensures { (padding : ℕ) × (padding < 8) × (bits result ≡ self ++ replicate padding false) }
     {
-        let BitWriter { mut bytes, word, held } = self;
+        let BitWriter {
+            mut bytes,
+            word,
+            held,
+        } = self;
         if held == 0 {
             return List::from_vec(bytes);
         }

@@ -12,5 +12,5 @@ loop-low-preserved g c =
     record {
       within = omega arith;
       below = λ k s. let h = not_below c.args.positions.now k (2 * c.loop-low.low) c.requires (omega arith) c.loop-low-test.true in omega arith;
-      power = (p.0 + 1, omega arith, omega arith)
+      power = (p.0 + 1, omega arith, omega arith);
     }

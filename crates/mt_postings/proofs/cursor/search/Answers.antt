@@ -28,7 +28,7 @@ loop-from-preserved-then-positions-middle g c =
       stop = inv.stop;
       grown = let a = inv.grown in let e = c.tick.ensures in omega arith;
       size = subst (λ x. 2 ^ x * (to - (middle + 1)) ≤ range) (sym k) s;
-      looks = subst (λ x. 2 ^ x ≤ 2 * range + 1) (sym k) l
+      looks = subst (λ x. 2 ^ x ≤ 2 * range + 1) (sym k) l;
     }
 
 pub loop-from-preserved : goal.loop-from-preserved
@@ -52,5 +52,5 @@ loop-from-preserved g c =
       stop = λ _. c.if-positions-middle.false;
       grown = let a = inv.grown in let e = c.tick.ensures in omega arith;
       size = subst (λ x. 2 ^ x * (middle - from) ≤ range) (sym k) s;
-      looks = subst (λ x. 2 ^ x ≤ 2 * range + 1) (sym k) l
+      looks = subst (λ x. 2 ^ x ≤ 2 * range + 1) (sym k) l;
     }

@@ -11,5 +11,5 @@ loop-preserved c =
     let m = inv.number in
     record {
       number = omega arith;
-      reads = reads_more c.args.reader.now.left c.loop.positions.items c.push.new.self.items c.loop.least c.in-Ok.position c.loop.reader c.next_position.new.reader inv.reads pushed c.in-Ok.ensures.range.0 c.in-Ok.ensures.range.1 c.in-Ok.ensures.code c.in-Ok.ensures.place
+      reads = reads_more c.args.reader.now.left c.loop.positions.items c.push.new.self.items c.loop.least c.in-Ok.position c.loop.reader c.next_position.new.reader inv.reads pushed c.in-Ok.ensures.range.0 c.in-Ok.ensures.range.1 c.in-Ok.ensures.code c.in-Ok.ensures.place;
     }

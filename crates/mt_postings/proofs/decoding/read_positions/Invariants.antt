@@ -4,6 +4,6 @@ use Rattle.mt_postings.proofs.decoding.read_positions.Given as goal
 
 abbrev pub invariant-loop : goal.invariant-loop
 invariant-loop l = record {
-    number : length l.positions.items ≡ l.counter;
-    reads : ReadsTo l.initial.reader.left l.positions.items l.least l.reader.place l.reader.left
-  }
+  number : length l.positions.items ≡ l.counter;
+  reads : ReadsTo l.initial.reader.left l.positions.items l.least l.reader.place l.reader.left;
+}

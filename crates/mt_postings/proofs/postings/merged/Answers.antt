@@ -23,7 +23,7 @@ loop-i-preserved c =
       right_within = m.1;
       count = omega arith;
       room = let r = inv.room in let q = c.push_reserved.ensures.capacity in omega arith;
-      merged = subst (λ x. Merged x left right (c.loop-i.i + bool_byte (leb a b)) (c.loop-i.j + bool_byte (leb b a))) (sym pushed) m.3
+      merged = subst (λ x. Merged x left right (c.loop-i.i + bool_byte (leb a b)) (c.loop-i.j + bool_byte (leb b a))) (sym pushed) m.3;
     }
 
 pub returns : goal.returns
@@ -33,5 +33,5 @@ returns c =
     let one : c.extend_from_slice.new.self.items ≡ c.loop-i.all.items ++ drop c.loop-i.i left = c.in_ok-extend_from_slice.ensures.items ∙ ap (λ x. c.loop-i.all.items ++ x) (take_rest left c.loop-i.i) in
     let two : c.extend_from_slice-2.new.self.items ≡ c.extend_from_slice.new.self.items ++ drop c.loop-i.j right = c.in_ok-extend_from_slice-2.ensures.items ∙ ap (λ x. c.extend_from_slice.new.self.items ++ x) (take_rest right c.loop-i.j) in
     two ∙ ap (λ x. x ++ drop c.loop-i.j right) one ∙ merged_end c.loop-i.all.items left right c.loop-i.i c.loop-i.j
-      (elim c.loop-i-test.branch [ then-loop-i-test+else-j-right w ↦ inr w.if-j-right.false | else-loop-i-test w ↦ inl w.loop-i-test.false ])
-      c.loop-i.invariant.merged
+    (elim c.loop-i-test.branch [ then-loop-i-test+else-j-right w ↦ inr w.if-j-right.false | else-loop-i-test w ↦ inl w.loop-i-test.false ])
+    c.loop-i.invariant.merged

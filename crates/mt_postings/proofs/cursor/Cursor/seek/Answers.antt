@@ -42,10 +42,10 @@ returns-in-Some-clause-most_looks g c =
     let rest : length (drop c.search-at.result left) ≡ length c.in-Some.rest.now + 1 = ap length (sym (take_rest left c.search-at.result) ∙ c.in-Some.ensures.cases.0) ∙ omega arith in
     let d = length-drop c.search-at.result left in
     let low : c.reach-low.result ≤ c.search-at.result =
-        elim (cases_lt c.search-at.result c.reach-low.result) [
-            inl b ↦ let x = c.reach-low.ensures.below c.search-at.result b in let y = c.search-at.ensures.stop (omega arith) in absurd (omega arith)
-          | inr a ↦ a
-        ] in
+    elim (cases_lt c.search-at.result c.reach-low.result) [
+      | inl b ↦ let x = c.reach-low.ensures.below c.search-at.result b in let y = c.search-at.ensures.stop (omega arith) in absurd (omega arith)
+      | inr a ↦ a
+    ] in
     cost c.args.steps.now c.reach-low.new.steps c.search-at.new.steps c.reach-low.result c.min-high.result p.0 (length c.args.self.now - length c.in-Some.rest.now) p.1 c.reach-low.ensures.least_looks p.2 c.search-at.ensures.least_looks c.search-at.ensures.most_looks (omega arith) (omega arith)
 
 pub returns-in-None-clause-most_looks : goal.returns-in-None-clause-most_looks

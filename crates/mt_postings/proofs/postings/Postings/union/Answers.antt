@@ -12,14 +12,14 @@ seen left right a b all e f h = h ∙ ap (λ x. merge (length x + length b) x b)
 pub invariant_of-result : goal.invariant_of-result
 invariant_of-result c =
     subst ArePositions (sym (seen c.args.self.now c.args.other.now c.as_slice.result.now c.as_slice-2.result.now c.in_ok-merged.field-0.items (c.as_slice.ensures.value ∙ c.self.view_is) (c.as_slice-2.ensures.value ∙ c.other.view_is) c.in_ok-merged.ensures))
-      (merge_positions c.args.self.now c.args.other.now (subst ArePositions c.self.view_is c.self.invariant) (subst ArePositions c.other.view_is c.other.invariant))
+    (merge_positions c.args.self.now c.args.other.now (subst ArePositions c.self.view_is c.self.invariant) (subst ArePositions c.other.view_is c.other.invariant))
 
 pub returns-clause-valid : goal.returns-clause-valid
 returns-clause-valid c =
     subst ArePositions (sym (seen c.args.self.now c.args.other.now c.as_slice.result.now c.as_slice-2.result.now c.in_ok-merged.field-0.items (c.as_slice.ensures.value ∙ c.self.view_is) (c.as_slice-2.ensures.value ∙ c.other.view_is) c.in_ok-merged.ensures))
-      (merge_positions c.args.self.now c.args.other.now (subst ArePositions c.self.view_is c.self.invariant) (subst ArePositions c.other.view_is c.other.invariant))
+    (merge_positions c.args.self.now c.args.other.now (subst ArePositions c.self.view_is c.self.invariant) (subst ArePositions c.other.view_is c.other.invariant))
 
 pub returns-clause-members : goal.returns-clause-members
 returns-clause-members c = λ p.
     subst (λ x. Contains x p ↔ (Contains c.args.self.now p ⊎ Contains c.args.other.now p)) (sym (seen c.args.self.now c.args.other.now c.as_slice.result.now c.as_slice-2.result.now c.in_ok-merged.field-0.items (c.as_slice.ensures.value ∙ c.self.view_is) (c.as_slice-2.ensures.value ∙ c.other.view_is) c.in_ok-merged.ensures))
-      (merge_members c.args.self.now c.args.other.now p)
+    (merge_members c.args.self.now c.args.other.now p)
