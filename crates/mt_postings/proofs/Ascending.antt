@@ -1,11 +1,10 @@
 -- Lists of positions, by recursion.
-use Rattle.std.proofs.Common.{ℕ, zero, suc, ◌≡◌, ◌≢◌, ◌+◌, ◌-◌, ◌*◌, ◌<◌, ◌≤◌, ◌⊎◌, List, [], ◌∷◌, ◌++◌, length, take, drop, get_or, refl, sym, ap, ◌∙◌, subst, inl, inr, arith, append_assoc, add-one}
+use Rattle.std.proofs.Common.{ℕ, zero, suc, ◌≡◌, ◌+◌, ◌<◌, ◌≤◌, List, [], ◌∷◌, length, drop, get_or, ap, subst, inl, inr, arith, add-one}
 use Rattle.std.specs.List.{All}
-use Rattle.std.specs.List.Sorted.{IsStrictlyIncreasing}
 use Rattle.std.proofs.lemmas.List.Elements.{All-nil, All-cons, All-head, All-tail}
 use Rattle.std.proofs.lemmas.List.Kept.{AllPairs-from_increasing}
-use Rattle.std.proofs.lemmas.Bool.{cases_lt, cases_order}
-use Rattle.mt_store_spec.specs.Positions.{ArePositions, next_least}
+use Rattle.std.proofs.lemmas.Bool.{cases_order}
+use Rattle.mt_store_spec.specs.Positions.{ArePositions}
 
 -- ascending from a least one on
 abbrev pub From : ℕ → List ℕ → Type 0

@@ -1,13 +1,13 @@
 -- The codes of lists of positions.
-use Rattle.std.proofs.Common.{ℕ, zero, suc, ◌≡◌, ◌≢◌, ◌+◌, ◌-◌, ◌*◌, ◌/◌, ◌%◌, ◌^◌, ◌<◌, ◌≤◌, ◌⊎◌, Bool, true, false, List, [], ◌∷◌, ◌++◌, length, take, drop, get_or, replicate, refl, sym, ap, ◌∙◌, subst, inl, inr, arith, append_assoc, add-one, nat_eq, nat_lt, Ok, Err, Result}
+use Rattle.std.proofs.Common.{ℕ, zero, suc, ◌≡◌, ◌+◌, ◌-◌, ◌*◌, ◌/◌, ◌^◌, ◌<◌, ◌≤◌, ◌⊎◌, Bool, true, false, List, [], ◌∷◌, ◌++◌, length, replicate, refl, sym, ap, ◌∙◌, subst, inl, inr, arith, append_assoc, add-one, nat_eq}
 use Rattle.std.specs.Bool.{MatchBool}
 use Rattle.std.specs.List.{All}
 use Rattle.std.proofs.lemmas.List.Elements.{All-head, All-tail}
-use Rattle.std.proofs.lemmas.Bool.{cases_lt, cases_order, eqb-true, eqb-false, ltb-true, cases_Bool}
-use Rattle.std.proofs.lemmas.Nat.{shr_below, pow_pos}
+use Rattle.std.proofs.lemmas.Bool.{cases_lt, eqb-true, eqb-false}
+use Rattle.std.proofs.lemmas.Nat.{shr_below}
 use Rattle.std.proofs.lemmas.List.{length-append, length-replicate, append-nil, nil_from_length, replicate-append-replicate, append_cancel_right}
 use Rattle.std.proofs.Math.Nat.{mod-eq_of_lt}
-use Rattle.mt_store_spec.specs.Codes.{digits, log2, gamma, delta, bits, IsTooLarge, IsCut, Unread}
+use Rattle.mt_store_spec.specs.Codes.{digits, log2, delta, bits, IsTooLarge, IsCut, Unread}
 use Rattle.mt_store_spec.specs.Positions.{ArePositions, next_least, codes, IsCode, BeginsWith, IsPast, IsTooLargeAt, IsCutAt, IsPaddingAt}
 use Rattle.mt_postings.specs.Words.{Shows}
 use Rattle.mt_postings.specs.Refused.{IsStopped, IsNoList}
@@ -18,7 +18,7 @@ use Rattle.mt_postings.proofs.Deltas.{delta_same, parts_same, log2_bounds, lengt
 use Rattle.mt_postings.proofs.Refusals.{code_not_large, code_not_cut}
 use Rattle.mt_postings.proofs.Heads.{shows_part}
 use Rattle.mt_postings.proofs.Words.{length-bits}
-use Rattle.mt_postings.proofs.Ascending.{From, from_start, positions_from, from_weaker}
+use Rattle.mt_postings.proofs.Ascending.{From, from_start, positions_from}
 
 -- ---- one position more
 

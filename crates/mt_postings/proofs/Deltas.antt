@@ -1,11 +1,11 @@
 -- Elias gamma and delta: their lengths, and that no code begins another.
-use Rattle.std.proofs.Common.{ℕ, zero, suc, ◌≡◌, ◌≢◌, ◌+◌, ◌-◌, ◌*◌, ◌/◌, ◌%◌, ◌^◌, ◌<◌, ◌≤◌, ◌==◌, ◌⊎◌, Bool, true, false, List, [], ◌∷◌, ◌++◌, length, replicate, take, drop, refl, sym, ap, ◌∙◌, subst, inl, inr, arith, add-one, append_assoc, nat_lt}
-use Rattle.std.proofs.Math.Nat.{pow-suc, mul-le-mul_left, mod-eq_of_lt}
+use Rattle.std.proofs.Common.{ℕ, zero, suc, ◌≡◌, ◌+◌, ◌-◌, ◌*◌, ◌/◌, ◌%◌, ◌^◌, ◌<◌, ◌≤◌, Bool, true, false, List, [], ◌∷◌, ◌++◌, length, replicate, refl, sym, ap, ◌∙◌, subst, inl, inr, arith, add-one, append_assoc}
+use Rattle.std.proofs.Math.Nat.{pow-suc, mod-eq_of_lt}
 use Rattle.std.proofs.lemmas.Nat.{pow_pos, pow_below, pow-add, mod_low, mul-add-lt}
 use Rattle.std.proofs.lemmas.Bool.{cases_lt, cases_order}
 use Rattle.std.proofs.lemmas.Bool.Decides.{nat_tests}
-use Rattle.std.proofs.lemmas.List.{length-append, length-replicate, append_cancel_left, replicate-append-replicate, append-nil, take_at, drop_at}
-use Rattle.mt_store_spec.specs.Codes.{digits, halvings, log2, gamma, delta, bits}
+use Rattle.std.proofs.lemmas.List.{length-append, length-replicate}
+use Rattle.mt_store_spec.specs.Codes.{digits, halvings, log2, gamma, delta}
 use Rattle.mt_postings.proofs.Digits.{length-digits, digits_joined, digits_padded, digits_top, same_from_digits, digits-same}
 
 pub pow_more : (k : ℕ) → 2 ^ (k + 1) ≡ 2 * 2 ^ k

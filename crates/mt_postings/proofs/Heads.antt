@@ -1,20 +1,20 @@
 -- What the word before a reader tells of the next code.
-use Rattle.std.proofs.Common.{ℕ, zero, suc, ◌≡◌, ◌≢◌, ◌+◌, ◌-◌, ◌*◌, ◌/◌, ◌%◌, ◌^◌, ◌<◌, ◌≤◌, ◌==◌, ◌⊎◌, Bool, true, false, List, [], ◌∷◌, ◌++◌, length, replicate, take, drop, get_or, refl, sym, ap, ◌∙◌, subst, inl, inr, arith, add-one, append_assoc}
-use Rattle.std.specs.Int.{bytes_high_first, to_be_bytes, from_be_bytes, w64}
+use Rattle.std.proofs.Common.{ℕ, zero, suc, ◌≡◌, ◌≢◌, ◌+◌, ◌-◌, ◌*◌, ◌/◌, ◌%◌, ◌^◌, ◌<◌, ◌≤◌, ◌⊎◌, Bool, true, false, List, [], ◌∷◌, ◌++◌, length, replicate, take, drop, get_or, refl, sym, ap, ◌∙◌, subst, inl, inr, arith, append_assoc}
+use Rattle.std.specs.Int.{from_be_bytes, w64}
 use Rattle.std.proofs.Math.Nat.{mod-eq_of_lt}
-use Rattle.std.proofs.Math.Seq.{drop-append-add, take-append-add}
-use Rattle.std.proofs.lemmas.Nat.{shl_whole, shr_below, shr_split, pow_pos, pow-add, pow_below, mod_below, mul-add-lt, be_bytes_8, le-div, shr-shr, mod_low}
-use Rattle.std.proofs.lemmas.Bool.{cases_lt, cases_order}
-use Rattle.std.proofs.lemmas.List.{length-append, length-replicate, append-nil, take_at, drop_at, take-append-le, take-take, take-append-drop, take-replicate, nil_from_length, length-drop, length-take-le, drop-append-le, drop-take, replicate-append-replicate, append_cancel_right, get_or-take, get_or_past, get_or_append_left, get_or-append_right, get_or-replicate, length-take}
+use Rattle.std.proofs.Math.Seq.{take-append-add}
+use Rattle.std.proofs.lemmas.Nat.{shl_whole, shr_below, shr_split, pow_pos, pow-add, mod_below, be_bytes_8, le-div, shr-shr}
+use Rattle.std.proofs.lemmas.Bool.{cases_lt}
+use Rattle.std.proofs.lemmas.List.{length-append, length-replicate, append-nil, take_at, drop_at, take-append-le, take-take, take-append-drop, take-replicate, length-drop, length-take-le, drop-append-le, drop-take, replicate-append-replicate, append_cancel_right, get_or-take, get_or_past, get_or_append_left, get_or-append_right, get_or-replicate, length-take}
 use Rattle.mt_store_spec.specs.Codes.{digits, log2, gamma, delta, bits, IsTooLarge, SixZeros, Passes32, IsCut, Unread}
 use Rattle.mt_postings.specs.Words.{Shows}
 use Rattle.mt_postings.specs.Refused.{IsRefused}
 use Rattle.mt_postings.specs.declared.error.CodeError.{CodeError}
 use Rattle.mt_postings.specs.declared.error.CodeError.TheVariants.{Cut, TooLarge}
-use Rattle.mt_postings.proofs.Digits.{length-digits, digits-add, digits_joined, digits-same, digits-zero, digits-none}
+use Rattle.mt_postings.proofs.Digits.{length-digits, digits-add, digits_joined, digits-same, digits-zero}
 use Rattle.mt_postings.proofs.Deltas.{pow_more, pow_monotone, log2_is, gamma_digits, delta_digits, length-gamma, gamma_parts}
 use Rattle.mt_postings.proofs.Refusals.{not_large, log2_below}
-use Rattle.mt_postings.proofs.Words.{bits-be, bits-append, length-bits, drop-bits, take-bits}
+use Rattle.mt_postings.proofs.Words.{bits-be, bits-append, length-bits, take-bits}
 
 -- eight bytes as a word
 pub be_word : (bs : List ℕ) (n : ℕ) → length bs ≡ 8 → ((i : ℕ) → get_or bs i 0 < 256) → n ≡ from_be_bytes w64 bs → digits 64 n ≡ bits bs

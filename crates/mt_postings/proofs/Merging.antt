@@ -1,15 +1,14 @@
 -- The merge of two ascending lists has the numbers of both, and is ascending.
-use Rattle.std.proofs.Common.{ℕ, zero, suc, ◌≡◌, ◌≢◌, ◌+◌, ◌-◌, ◌*◌, ◌<◌, ◌≤◌, ◌⊎◌, ◌↔◌, List, [], ◌∷◌, ◌++◌, length, take, drop, get_or, map, refl, sym, ap, ◌∙◌, subst, inl, inr, arith, append_assoc, add-one}
+use Rattle.std.proofs.Common.{ℕ, zero, suc, ◌≡◌, ◌+◌, ◌-◌, ◌<◌, ◌≤◌, ◌⊎◌, ◌↔◌, List, [], ◌∷◌, ◌++◌, length, drop, get_or, map, refl, sym, ap, ◌∙◌, subst, inl, inr, arith, append_assoc}
 use Rattle.std.proofs.Common.{Bool, true, false, min, leb}
 use mir.Val.{bool_byte}
-use Rattle.std.specs.List.{All, Contains}
+use Rattle.std.specs.List.{Contains}
 use Rattle.std.proofs.lemmas.Bool.{cases_lt, cases_order, leb-true, leb-false}
 use Rattle.std.proofs.lemmas.Bool.Decides.{nat_tests}
-use Rattle.std.proofs.lemmas.List.{drop_more, drop_all, length-drop, append-nil, get_or-append-add, get_or-map, length-append, length-map}
-use Rattle.std.proofs.lemmas.List.Elements.{Contains-get_or}
+use Rattle.std.proofs.lemmas.List.{drop_more, drop_all, append-nil, get_or-append-add, get_or-map, length-append, length-map}
 use Rattle.mt_store_spec.specs.Positions.{ArePositions}
 use Rattle.mt_postings.specs.Merge.{merge}
-use Rattle.mt_postings.proofs.Ascending.{From, from_start, from_weaker, positions_from}
+use Rattle.mt_postings.proofs.Ascending.{From, from_start, positions_from}
 
 -- a number stands in the list
 abbrev pub Has : List ℕ → ℕ → Type 0

@@ -1,10 +1,10 @@
 -- When the code that begins at a bit is refused: the three answers exclude each other.
-use Rattle.std.proofs.Common.{ℕ, zero, suc, ◌≡◌, ◌≢◌, ◌+◌, ◌-◌, ◌*◌, ◌/◌, ◌%◌, ◌^◌, ◌<◌, ◌≤◌, ◌==◌, ◌⊎◌, Bool, true, false, List, [], ◌∷◌, ◌++◌, length, replicate, take, drop, refl, sym, ap, ◌∙◌, subst, inl, inr, arith, add-one, append_assoc}
-use Rattle.std.proofs.lemmas.Nat.{pow_pos, pow_below}
-use Rattle.std.proofs.lemmas.Bool.{cases_lt, cases_order}
-use Rattle.std.proofs.lemmas.List.{length-append, length-replicate, append-nil, nil_from_length}
+use Rattle.std.proofs.Common.{ℕ, zero, suc, ◌≡◌, ◌+◌, ◌^◌, ◌<◌, ◌≤◌, ◌⊎◌, Bool, true, false, List, [], ◌∷◌, ◌++◌, length, replicate, sym, ap, ◌∙◌, subst, inl, inr, arith, append_assoc}
+use Rattle.std.proofs.lemmas.Nat.{pow_below}
+use Rattle.std.proofs.lemmas.Bool.{cases_order}
+use Rattle.std.proofs.lemmas.List.{length-append, append-nil, nil_from_length}
 use Rattle.mt_store_spec.specs.Codes.{digits, log2, gamma, delta, IsTooLarge, SixZeros, Passes32, IsCut}
-use Rattle.mt_postings.proofs.Deltas.{log2_bounds, gamma_parts, length-gamma, gamma_same, delta_same}
+use Rattle.mt_postings.proofs.Deltas.{log2_bounds, gamma_parts, gamma_same, delta_same}
 
 -- fewer zeros than another list begins with
 zeros_fewer : (a b : ℕ) (x r : List Bool) → a < b → replicate a false ++ true ∷ x ≡ replicate b false ++ r → ⊥

@@ -1,12 +1,10 @@
 -- Seeking in a list of positions.
-use Rattle.std.proofs.Common.{ℕ, zero, suc, ◌≡◌, ◌≢◌, ◌+◌, ◌-◌, ◌*◌, ◌^◌, ◌<◌, ◌≤◌, ◌⊎◌, List, [], ◌∷◌, ◌++◌, length, take, drop, get_or, min, refl, sym, ap, ◌∙◌, subst, inl, inr, arith, append_assoc, add-one}
+use Rattle.std.proofs.Common.{ℕ, zero, suc, ◌≡◌, ◌+◌, ◌*◌, ◌^◌, ◌<◌, ◌≤◌, List, [], ◌∷◌, length, drop, get_or, refl, inl, inr, arith, add-one}
 use Rattle.std.proofs.Math.Nat.{mul-le-mul_left, pow-suc}
-use Rattle.std.proofs.lemmas.Nat.{pow_pos, pow_below}
-use Rattle.std.proofs.lemmas.Bool.{cases_lt, cases_order}
+use Rattle.std.proofs.lemmas.Bool.{cases_lt}
 use Rattle.std.proofs.lemmas.Bool.Decides.{nat_tests}
 use Rattle.mt_store_spec.specs.Codes.{log2}
-use Rattle.mt_store_spec.specs.Positions.{ArePositions, from_least}
-use Rattle.mt_postings.proofs.Ascending.{not_below}
+use Rattle.mt_store_spec.specs.Positions.{from_least}
 use Rattle.mt_postings.proofs.Deltas.{log2_bounds, pow_monotone, pow_more}
 
 -- where the first k are below and the next is not, the others are those from `least` on

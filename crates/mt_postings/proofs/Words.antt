@@ -1,12 +1,12 @@
 -- Words of 64 bits as the digits that they hold.
-use Rattle.std.proofs.Common.{ℕ, zero, suc, ◌≡◌, ◌+◌, ◌-◌, ◌*◌, ◌/◌, ◌%◌, ◌^◌, ◌<◌, ◌≤◌, ◌==◌, Bool, true, false, List, [], ◌∷◌, ◌++◌, length, replicate, take, drop, get_or, refl, sym, ap, ◌∙◌, subst, inl, inr, arith, add-one, append_assoc}
-use Rattle.std.specs.Int.{byte_at, bytes_high_first, to_be_bytes, from_be_bytes, w64}
-use Rattle.std.proofs.lemmas.Nat.{shl_whole, shr_below, shr_split, pow_pos, pow-add, mod_below, div-add-mod', mul-add-lt, shl_below, be_bytes_8, mod_low}
-use Rattle.std.proofs.lemmas.List.{length-append, length-replicate, append_cancel_left, replicate-append-replicate, append-nil, take_at, drop_at, take-append-le, take-replicate}
+use Rattle.std.proofs.Common.{ℕ, zero, suc, ◌≡◌, ◌+◌, ◌-◌, ◌*◌, ◌/◌, ◌%◌, ◌^◌, ◌<◌, ◌≤◌, Bool, false, List, [], ◌∷◌, ◌++◌, length, replicate, take, drop, refl, sym, ap, ◌∙◌, subst, arith, append_assoc}
+use Rattle.std.specs.Int.{byte_at, bytes_high_first}
+use Rattle.std.proofs.lemmas.Nat.{shl_whole, shr_below, pow_pos, pow-add, mod_below, mul-add-lt}
+use Rattle.std.proofs.lemmas.List.{length-append, take-replicate}
 use Rattle.std.proofs.Math.Seq.{drop-append-add, take-append-add}
 use Rattle.std.proofs.Math.Nat.{pow-suc, mod-eq_of_lt}
 use Rattle.mt_store_spec.specs.Codes.{digits, bits}
-use Rattle.mt_postings.proofs.Digits.{length-digits, digits-add, digits_joined, digits_padded, digits-same, digits-zero, digits-none}
+use Rattle.mt_postings.proofs.Digits.{length-digits, digits-add, digits_joined, digits-same, digits-zero, digits-none}
 
 pub bits-append : (a b : List ℕ) → bits (a ++ b) ≡ bits a ++ bits b
 bits-append [] b = refl

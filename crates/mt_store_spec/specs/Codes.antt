@@ -1,6 +1,6 @@
 -- Elias gamma and delta (P. Elias, Universal codeword sets and representations of the integers, 1975).
 -- A bit is `true` where it is 1, and bits stand in the order in which they are written.
-use Rattle.std.specs.Prelude.{ℕ, zero, suc, ◌≡◌, ◌≢◌, ◌+◌, ◌/◌, ◌%◌, ◌^◌, ◌<◌, ◌≤◌, ◌==◌, nat_lt, if◌then◌else◌, Bool, true, false, List, [], ◌∷◌, ◌++◌, replicate}
+use Rattle.std.specs.Prelude.{ℕ, zero, suc, ◌≡◌, ◌≢◌, ◌+◌, ◌/◌, ◌%◌, ◌^◌, ◌<◌, ◌≤◌, ◌==◌, nat_lt, if◌then◌else◌, Bool, false, List, [], ◌∷◌, ◌++◌, replicate}
 
 -- the k lowest binary digits of n, the highest of them first
 unfoldable pub digits : ℕ → ℕ → List Bool

@@ -1,4 +1,4 @@
-use Rattle.std.proofs.Common.{ℕ, ◌≡◌, ◌+◌, ◌-◌, ◌*◌, ◌/◌, ◌^◌, ◌<◌, ◌≤◌, length, get_or, sym, ap, subst, ◌∙◌, arith, refl}
+use Rattle.std.proofs.Common.{◌+◌, ◌*◌, arith}
 use Rattle.mt_postings.proofs.Ascending.{not_below}
 use Rattle.mt_postings.proofs.Deltas.{pow_more}
 use Rattle.mt_postings.proofs.cursor.reach.Goals as goal

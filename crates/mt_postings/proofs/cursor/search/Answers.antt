@@ -1,4 +1,4 @@
-use Rattle.std.proofs.Common.{ℕ, ◌≡◌, ◌+◌, ◌-◌, ◌*◌, ◌/◌, ◌^◌, ◌<◌, ◌≤◌, length, get_or, sym, ap, subst, ◌∙◌, arith, refl}
+use Rattle.std.proofs.Common.{ℕ, ◌≡◌, ◌+◌, ◌-◌, ◌*◌, ◌/◌, ◌^◌, ◌≤◌, sym, subst, arith}
 use Rattle.mt_postings.proofs.Ascending.{not_below}
 use Rattle.mt_postings.proofs.Seeks.{halved, last_look}
 use Rattle.mt_postings.proofs.cursor.search.Goals as goal

@@ -1,8 +1,5 @@
-use Rattle.std.proofs.Common.{◌≡◌, ◌∙◌, sym, ap, inl, subst}
-use Rattle.mt_store_spec.specs.Codes.{Unread}
+use Rattle.std.proofs.Common.{inl, subst}
 use Rattle.mt_postings.specs.Refused.{IsRefused}
-use Rattle.mt_postings.specs.declared.error.CodeError.{CodeError}
-use Rattle.mt_postings.specs.declared.error.CodeError.TheVariants.{TooLarge}
 use Rattle.mt_postings.proofs.decoding.next_position.Goals as goal
 
 pub returns-in-Err-TooLarge-clause-err : goal.returns-in-Err-TooLarge-clause-err

@@ -1,6 +1,6 @@
-use Rattle.std.proofs.Common.{ℕ, ◌≡◌, ◌+◌, ◌<◌, ◌++◌, ◌∷◌, [], length, sym, ap, ◌∙◌, arith}
+use Rattle.std.proofs.Common.{◌≡◌, ◌++◌, ◌∷◌, [], length, ap, ◌∙◌, arith}
 use Rattle.std.proofs.lemmas.List.{length_push}
-use Rattle.mt_postings.proofs.Coding.{ReadsTo, reads_more, stopped_list}
+use Rattle.mt_postings.proofs.Coding.{reads_more}
 use Rattle.mt_postings.proofs.decoding.read_positions.Goals as goal
 
 pub loop-preserved : goal.loop-preserved

@@ -1,4 +1,4 @@
-use Rattle.std.proofs.Common.{ℕ, ◌≡◌, length}
+use Rattle.std.proofs.Common.{◌≡◌, length}
 use Rattle.mt_postings.proofs.Coding.{ReadsTo}
 use Rattle.mt_postings.proofs.decoding.read_positions.Given as goal
 

@@ -1,7 +1,6 @@
-use Rattle.std.proofs.Common.{ℕ, ◌≡◌, ◌+◌, ◌-◌, ◌<◌, ◌≤◌, ◌++◌, ◌∷◌, [], drop, length, get_or, min, leb, sym, ap, subst, ◌∙◌, arith, refl, rules, inl, inr}
+use Rattle.std.proofs.Common.{◌≡◌, ◌+◌, ◌++◌, ◌∷◌, [], drop, get_or, min, leb, sym, ap, subst, ◌∙◌, arith, refl, inl, inr}
 use mir.Val.{bool_byte}
 use Rattle.std.proofs.lemmas.List.{take_rest}
-use Rattle.mt_postings.specs.Merge.{merge}
 use Rattle.mt_postings.proofs.Merging.{Merged, merged_more, merged_end}
 use Rattle.mt_postings.proofs.postings.merged.Goals as goal
 use Rattle.mt_postings.proofs.postings.merged.Goals.{then-loop-i-test+else-j-right, else-loop-i-test}

@@ -1,4 +1,4 @@
-use Rattle.std.proofs.Common.{ℕ, ◌≡◌, ◌+◌, ◌-◌, ◌≤◌, ◌++◌, length, vec_len, map, take}
+use Rattle.std.proofs.Common.{◌≡◌, ◌+◌, ◌-◌, ◌≤◌, ◌++◌, length, vec_len, map, take}
 use Rattle.std.specs.Vec.{vec_capacity}
 use Rattle.mt_postings.proofs.postings.push_shifted.Given as goal
 

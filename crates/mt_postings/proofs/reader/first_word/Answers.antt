@@ -1,5 +1,4 @@
-use Rattle.std.proofs.Common.{ℕ, ◌≡◌, ◌+◌, ◌-◌, ◌*◌, ◌<◌, ◌≤◌, ◌++◌, length, take, drop, replicate, get_or, false, sym, ap, ◌∙◌, arith, rules, refl}
-use Rattle.mt_store_spec.specs.Codes.{bits}
+use Rattle.std.proofs.Common.{arith}
 use Rattle.mt_postings.proofs.Heads.{first_eight, fewer_than_eight}
 use Rattle.mt_postings.proofs.reader.first_word.Goals as goal
 

@@ -1,6 +1,6 @@
-use Rattle.std.proofs.Common.{◌≡◌, ◌+◌, ◌*◌, ◌^◌, ◌<◌, ◌≤◌, ◌%◌, sym, ap, ◌∙◌, arith, subst}
-use Rattle.std.proofs.lemmas.Nat.{shl_whole, pow_pos}
-use Rattle.mt_store_spec.specs.Codes.{digits, delta}
+use Rattle.std.proofs.Common.{◌≡◌, ◌+◌, ◌*◌, ◌^◌, ◌<◌, ◌%◌, sym, ap, ◌∙◌, arith, subst}
+use Rattle.std.proofs.lemmas.Nat.{shl_whole}
+use Rattle.mt_store_spec.specs.Codes.{digits}
 use Rattle.mt_postings.proofs.Deltas.{delta_digits, delta_fits, pow_more}
 use Rattle.mt_postings.proofs.writer.delta_word.Goals as goal
 

@@ -1,4 +1,3 @@
-use Rattle.std.proofs.Common.{◌≡◌, sym, ◌∙◌}
 use Rattle.mt_postings.proofs.Ascending.{rest_positions}
 use Rattle.mt_postings.proofs.cursor.Cursor.next.Goals as goal
 

@@ -1,4 +1,4 @@
-use Rattle.std.proofs.Common.{ℕ, ◌≡◌, ◌+◌, ◌<◌, ◌++◌, List, length, map, sym, ap, subst, ◌∙◌, arith}
+use Rattle.std.proofs.Common.{◌≡◌, ◌+◌, ◌++◌, map, sym, subst, ◌∙◌}
 use Rattle.mt_store_spec.specs.Positions.{ArePositions}
 use Rattle.mt_postings.proofs.Merging.{shifted_fits}
 use Rattle.mt_postings.proofs.postings.Postings.append_shifted.Goals as goal

@@ -1,6 +1,6 @@
-use Rattle.std.proofs.Common.{ℕ, ◌≡◌, ◌∙◌, List, Bool, length, sym, ap, subst}
+use Rattle.std.proofs.Common.{sym, subst}
 use Rattle.std.proofs.lemmas.List.{drop_all}
-use Rattle.mt_store_spec.specs.Positions.{ArePositions, IsCode, codes}
+use Rattle.mt_store_spec.specs.Positions.{ArePositions, codes}
 use Rattle.mt_postings.proofs.Coding.{WritesTo, writes_none, writes_all, short_code}
 use Rattle.mt_postings.proofs.postings.Postings.encode.Goals as goal
 

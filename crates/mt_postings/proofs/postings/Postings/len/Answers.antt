@@ -1,4 +1,4 @@
-use Rattle.std.proofs.Common.{◌≡◌, sym, ◌∙◌, arith}
+use Rattle.std.proofs.Common.{arith}
 use Rattle.mt_postings.proofs.Ascending.{length_positions}
 use Rattle.mt_postings.proofs.postings.Postings.len.Goals as goal
 

@@ -1,8 +1,7 @@
-use Rattle.std.proofs.Common.{ℕ, ◌^◌, ◌≡◌, List, ◌+◌, ◌-◌, ◌*◌, ◌/◌, ◌%◌, ◌<◌, ◌≤◌, ◌++◌, length, drop, Fits, w32, w64, sym, ap, ◌∙◌, arith, rules, refl, subst}
+use Rattle.std.proofs.Common.{ℕ, ◌^◌, ◌≡◌, List, ◌+◌, ◌-◌, ◌*◌, ◌/◌, ◌<◌, ◌≤◌, ◌++◌, length, drop, Fits, w32, sym, ap, ◌∙◌, arith, subst}
 use Rattle.std.proofs.lemmas.List.{length-drop}
 use Rattle.std.proofs.lemmas.Nat.{pow_pos}
 use Rattle.mt_store_spec.specs.Codes.{bits, delta, Unread}
-use Rattle.mt_postings.specs.Words.{Shows}
 use Rattle.mt_postings.proofs.Words.{length-bits}
 use Rattle.mt_postings.proofs.Heads.{Head, head_of, CodeValue, code_value, gamma_value, zeros_cut, six_zeros, head_cut, head_large, rest_cut, whole_code, code_length}
 use Rattle.mt_postings.proofs.reader.BitReader.first.Goals as goal

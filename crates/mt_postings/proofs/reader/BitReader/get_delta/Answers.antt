@@ -1,6 +1,6 @@
-use Rattle.std.proofs.Common.{ℕ, ◌≡◌, ◌+◌, ◌-◌, ◌*◌, ◌^◌, ◌<◌, ◌≤◌, ◌++◌, List, length, drop, Ok, Err, sym, ap, ◌∙◌, arith, rules, refl, subst}
+use Rattle.std.proofs.Common.{◌≡◌, ◌-◌, length, drop, Err, sym, ap, ◌∙◌, arith}
 use Rattle.std.proofs.lemmas.List.{length-drop, length-append}
-use Rattle.mt_store_spec.specs.Codes.{bits, delta, Unread, IsTooLarge, IsCut}
+use Rattle.mt_store_spec.specs.Codes.{bits, delta}
 use Rattle.mt_postings.proofs.Words.{length-bits}
 use Rattle.mt_postings.proofs.Refusals.{code_not_large, code_not_cut}
 use Rattle.mt_postings.proofs.Heads.{refused_too_large, refused_cut}

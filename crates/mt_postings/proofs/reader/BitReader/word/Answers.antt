@@ -1,4 +1,4 @@
-use Rattle.std.proofs.Common.{ℕ, ◌^◌, ◌≡◌, List, ◌+◌, ◌-◌, ◌*◌, ◌/◌, ◌%◌, ◌<◌, ◌≤◌, ◌++◌, length, take, drop, replicate, get_or, false, sym, ap, ◌∙◌, arith, rules, refl, subst}
+use Rattle.std.proofs.Common.{◌^◌, ◌≡◌, ◌*◌, ◌/◌, ◌%◌, ◌++◌, take, drop, replicate, false, sym, ap, ◌∙◌, arith, subst}
 use Rattle.std.proofs.lemmas.List.{length-drop, drop-drop, take_rest}
 use Rattle.mt_store_spec.specs.Codes.{bits}
 use Rattle.mt_postings.specs.Words.{Shows}

@@ -1,7 +1,6 @@
-use Rattle.std.proofs.Common.{◌≡◌, ◌+◌, ◌-◌, ◌*◌, ◌/◌, ◌%◌, ◌^◌, ◌<◌, ◌≤◌, ◌++◌, bit_and, sym, ap, ◌∙◌, arith, rules, subst, Fits, w64}
-use Rattle.std.specs.Vec.{vec_len, vec_capacity}
+use Rattle.std.proofs.Common.{◌≡◌, ◌+◌, ◌-◌, ◌*◌, ◌/◌, ◌%◌, ◌^◌, ◌<◌, ◌++◌, bit_and, sym, ap, ◌∙◌, arith, rules, subst, Fits, w64}
 use Rattle.std.specs.Int.{bytes_high_first}
-use Rattle.std.proofs.lemmas.Nat.{one_shl, and_mask, pow_below}
+use Rattle.std.proofs.lemmas.Nat.{one_shl, and_mask}
 use Rattle.mt_store_spec.specs.Codes.{digits, bits}
 use Rattle.mt_postings.proofs.Words.{put_more, put_full}
 use Rattle.mt_postings.proofs.Deltas.{pow_monotone}
