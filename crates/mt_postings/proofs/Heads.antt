@@ -5,46 +5,96 @@ use Rattle.std.proofs.Math.Nat.{mod-eq_of_lt}
 use Rattle.std.proofs.Math.Seq.{take-append-add}
 use Rattle.std.proofs.lemmas.Nat.{shl_whole, shr_below, shr_split, pow_pos, pow-add, mod_below, be_bytes_8, le-div, shr-shr}
 use Rattle.std.proofs.lemmas.Bool.{cases_lt}
-use Rattle.std.proofs.lemmas.List.{length-append, length-replicate, append-nil, take_at, drop_at, take-append-le, take-take, take-append-drop, take-replicate, length-drop, length-take-le, drop-append-le, drop-take, replicate-append-replicate, append_cancel_right, get_or-take, get_or_past, get_or_append_left, get_or-append_right, get_or-replicate, length-take}
+use Rattle.std.proofs.lemmas.List.{length-append, length-replicate, append-nil, take_at, drop_at, take-append-le, take-take, take-append-drop, take-replicate, length-drop, drop-drop, length-take-le, drop-append-le, drop-take, replicate-append-replicate, append_cancel_right, get_or-take, get_or_past, get_or_append_left, get_or-append_right, get_or-replicate, length-take}
 use Rattle.mt_store_spec.specs.Codes.{digits, log2, gamma, delta, bits, IsTooLarge, SixZeros, Passes32, IsCut, Unread}
-use Rattle.mt_postings.specs.Words.{Shows}
+use Rattle.mt_postings.specs.Words.{Shows, Holds, Begins}
 use Rattle.mt_postings.specs.Refused.{IsRefused}
 use Rattle.mt_postings.specs.declared.error.CodeError.{CodeError}
 use Rattle.mt_postings.specs.declared.error.CodeError.TheVariants.{Cut, TooLarge}
 use Rattle.mt_postings.proofs.Digits.{length-digits, digits-add, digits_joined, digits-same, digits-zero}
-use Rattle.mt_postings.proofs.Deltas.{pow_more, pow_monotone, log2_is, gamma_digits, delta_digits, length-gamma, gamma_parts}
-use Rattle.mt_postings.proofs.Refusals.{not_large, log2_below}
+use Rattle.mt_postings.proofs.Deltas.{delta_same, pow_more, pow_monotone, log2_is, gamma_digits, delta_digits, length-gamma, gamma_parts}
+use Rattle.mt_postings.proofs.Refusals.{not_large, log2_below, code_not_large}
 use Rattle.mt_postings.proofs.Words.{bits-be, bits-append, length-bits, take-bits}
 
 -- eight bytes as a word
 pub be_word : (bs : List ℕ) (n : ℕ) → length bs ≡ 8 → ((i : ℕ) → get_or bs i 0 < 256) → n ≡ from_be_bytes w64 bs → digits 64 n ≡ bits bs
 be_word bs n l small e = sym (bits-be 8 n) ∙ ap bits (be_bytes_8 bs n l small e)
 
--- a word that begins at a byte, moved to a bit in that byte
-pub word_moved : (word skip : ℕ) (all : List Bool) → skip < 8 → skip ≤ length all → digits 64 word ≡ take 64 (all ++ replicate 64 false) → Shows (word * 2 ^ skip % 2 ^ 64) (drop skip all)
-word_moved word skip all s there e =
+-- a word moved up
+moved : (word skip : ℕ) → digits 64 (word * 2 ^ skip % 2 ^ 64) ≡ drop skip (digits 64 word ++ replicate skip false)
+moved word skip =
     let z : 0 < 2 ^ skip = pow_pos skip in
     let x = word * 2 ^ skip in
     let zs = replicate skip false in
-    let a = all ++ replicate 64 false in
     let order : skip + 64 ≡ 64 + skip = omega arith in
     let plus : x ≡ word * 2 ^ skip + 0 = omega arith in
     let one : digits (64 + skip) x ≡ digits 64 word ++ zs = ap (digits (64 + skip)) plus ∙ digits_joined 64 skip word 0 z ∙ ap (λ y. digits 64 word ++ y) (digits-zero skip) in
     let two : digits (64 + skip) x ≡ digits skip (x / 2 ^ 64) ++ digits 64 x = ap (λ k. digits k x) (sym order) ∙ digits-add skip 64 x in
     let low : digits 64 (x % 2 ^ 64) ≡ digits 64 x = digits-same 64 (x % 2 ^ 64) x (mod-eq_of_lt (mod_below x (2 ^ 64) (pow_pos 64))) in
     let left : drop skip (digits 64 word ++ zs) ≡ digits 64 x = ap (drop skip) (sym one ∙ two) ∙ drop_at (digits skip (x / 2 ^ 64)) (digits 64 x) skip (length-digits skip (x / 2 ^ 64)) in
+    low ∙ sym left
+
+-- the bits that are left of it
+moved_front : (word skip count : ℕ) → skip + count ≤ 64 → take count (digits 64 (word * 2 ^ skip % 2 ^ 64)) ≡ take count (drop skip (digits 64 word))
+moved_front word skip count h =
     let lw = length-digits 64 word in
-    let cut : drop skip (digits 64 word ++ zs) ≡ drop skip (digits 64 word) ++ zs = drop-append-le skip (digits 64 word) zs (omega arith) in
+    let cut : drop skip (digits 64 word ++ replicate skip false) ≡ drop skip (digits 64 word) ++ replicate skip false = drop-append-le skip (digits 64 word) (replicate skip false) (omega arith) in
     let ld = length-drop skip (digits 64 word) in
-    let front : take 57 (drop skip (digits 64 word) ++ zs) ≡ take 57 (drop skip (digits 64 word)) = take-append-le 57 (drop skip (digits 64 word)) zs (omega arith) in
+    ap (take count) (moved word skip ∙ cut) ∙ take-append-le count (drop skip (digits 64 word)) (replicate skip false) (omega arith)
+
+-- a word that begins at a byte, moved to a bit in that byte
+pub word_moved : (word skip : ℕ) (all : List Bool) → skip < 8 → skip ≤ length all → digits 64 word ≡ take 64 (all ++ replicate 64 false) → Shows (word * 2 ^ skip % 2 ^ 64) (drop skip all)
+word_moved word skip all s there e =
+    let a = all ++ replicate 64 false in
     let whole : skip + (64 - skip) ≡ 64 = omega arith in
     let inner : drop skip (digits 64 word) ≡ take (64 - skip) (drop skip a) = ap (drop skip) (e ∙ ap (λ k. take k a) (sym whole)) ∙ drop-take skip (64 - skip) a in
     let short : take 57 (take (64 - skip) (drop skip a)) ≡ take 57 (drop skip a) = take-take 57 (64 - skip) (drop skip a) (omega arith) in
     let last : drop skip a ≡ drop skip all ++ replicate 64 false = drop-append-le skip all (replicate 64 false) there in
     record {
-      fits = mod_below x (2 ^ 64) (pow_pos 64);
-      same = ap (take 57) (low ∙ sym left ∙ cut) ∙ front ∙ ap (take 57) inner ∙ short ∙ ap (take 57) last;
+      fits = mod_below (word * 2 ^ skip) (2 ^ 64) (pow_pos 64);
+      same = moved_front word skip 57 (omega arith) ∙ ap (take 57) inner ∙ short ∙ ap (take 57) last;
     }
+
+-- ---- bits held in a word
+
+pub holds_none : (left : List Bool) → Holds 0 0 left
+holds_none left = record { fits = omega arith; few = omega arith; within = omega arith; same = refl }
+
+pub holds_shown : (count w : ℕ) (left : List Bool) → count ≤ 57 → count ≤ length left → Shows w left → Holds count w left
+holds_shown count w left few there s =
+    record {
+      fits = s.fits;
+      few = omega arith;
+      within = there;
+      same = sym (take-take count 57 (digits 64 w) few) ∙ ap (take count) s.same ∙ take-take count 57 (left ++ replicate 64 false) few ∙ take-append-le count left (replicate 64 false) there;
+    }
+
+pub holds_passed : (count k w : ℕ) (left : List Bool) → k ≤ count → Holds count w left → Holds (count - k) (w * 2 ^ k % 2 ^ 64) (drop k left)
+holds_passed count k w left l h =
+    let few = h.few in
+    let within = h.within in
+    let d = length-drop k left in
+    let sum : k + (count - k) ≡ count = omega arith in
+    let inner : take (count - k) (drop k (digits 64 w)) ≡ drop k (take count (digits 64 w)) = sym (drop-take k (count - k) (digits 64 w)) ∙ ap (λ x. drop k (take x (digits 64 w))) sum in
+    let outer : drop k (take count left) ≡ take (count - k) (drop k left) = ap (λ x. drop k (take x left)) (sym sum) ∙ drop-take k (count - k) left in
+    record {
+      fits = mod_below (w * 2 ^ k) (2 ^ 64) (pow_pos 64);
+      few = omega arith;
+      within = omega arith;
+      same = moved_front w k (count - k) (omega arith) ∙ inner ∙ ap (drop k) h.same ∙ outer;
+    }
+
+-- a code in the bits that are held is the next
+pub held_next : (count w n k : ℕ) (left : List Bool) → Holds count w left → Begins w n k → k ≤ count → left ≡ delta n ++ drop k left
+held_next count w n k left h b l =
+    let few = h.few in
+    let e : 64 ≡ k + (64 - k) = omega arith in
+    let a : take k (digits 64 w) ≡ digits k (w / 2 ^ (64 - k)) = ap (take k) (ap (λ x. digits x w) e ∙ digits-add k (64 - k) w) ∙ take_at (digits k (w / 2 ^ (64 - k))) (digits (64 - k) w) k (length-digits k (w / 2 ^ (64 - k))) in
+    let t : take k left ≡ digits k (w / 2 ^ (64 - k)) = sym (take-take k count left l) ∙ ap (take k) (sym h.same) ∙ take-take k count (digits 64 w) l ∙ a in
+    sym (take-append-drop k left) ∙ ap (λ x. x ++ drop k left) (t ∙ sym b.code)
+
+pub held_length : (w n k : ℕ) → Begins w n k → length (delta n) ≡ k
+held_length w n k b = ap length b.code ∙ length-digits k (w / 2 ^ (64 - k))
 
 -- the first digits of the word are the first bits, with zeros after the last
 pub shows_first : (k w : ℕ) (left : List Bool) → k ≤ 57 → Shows w left → digits k (w / 2 ^ (64 - k)) ≡ take k (left ++ replicate 64 false)
@@ -308,6 +358,46 @@ fewer_than_eight bytes padded n short same small e =
     let c : take (8 * k) (replicate 64 false) ≡ replicate (8 * k) false = take-replicate (8 * k) 64 false (omega arith) in
     w ∙ p ∙ sym (t ∙ ap (λ x. bits bytes ++ x) c)
 
+-- ---- what the word begins with
+
+begins_list : (w n k : ℕ) → Begins w n k → k ≤ 57 → digits 64 w ≡ delta n ++ digits (64 - k) w
+begins_list w n k b l =
+    let e : 64 ≡ k + (64 - k) = omega arith in
+    ap (λ x. digits x w) e ∙ digits-add k (64 - k) w ∙ ap (λ x. x ++ digits (64 - k) w) (sym b.code)
+
+shows_itself : (w : ℕ) → w < 2 ^ 64 → Shows w (digits 64 w)
+shows_itself w f =
+    let l = length-digits 64 w in
+    record { fits = f; same = sym (take-append-le 57 (digits 64 w) (replicate 64 false) (omega arith)) }
+
+pub begins_no_zeros : (w n k : ℕ) → w < 2 ^ 64 → w / 2 ^ 58 ≡ 0 → Begins w n k → k ≤ 57 → ⊥
+begins_no_zeros w n k f z b l =
+    let d = length-digits 64 w in
+    code_not_large n (digits 64 w) (digits (64 - k) w) b.positive b.small (begins_list w n k b l) (six_zeros w (digits 64 w) (shows_itself w f) z (omega arith))
+
+pub begins_no_large : (w z n k : ℕ) → w < 2 ^ 64 → Head w z → 32 < w / 2 ^ (64 - (2 * z + 1)) → Begins w n k → k ≤ 57 → ⊥
+begins_no_large w z n k f h large b l =
+    let d = length-digits 64 w in
+    let few = h.few in
+    code_not_large n (digits 64 w) (digits (64 - k) w) b.positive b.small (begins_list w n k b l) (head_large w z (digits 64 w) (shows_itself w f) h (omega arith) large)
+
+pub begins_value : (w z g : ℕ) → CodeValue w z g → Begins w (w / 2 ^ (64 - (2 * z + 1 + (g - 1))) - (g - 1) * 2 ^ (g - 1)) (2 * z + 1 + (g - 1))
+begins_value w z g c = record { positive = c.positive; small = c.fits; code = c.code }
+
+pub begins_one : (w n m k l : ℕ) → Begins w n k → Begins w m l → k ≤ 57 → l ≤ 57 → k ≡ l
+begins_one w n m k l b c p q =
+    let s = delta_same n m (digits (64 - k) w) (digits (64 - l) w) b.positive c.positive (sym (begins_list w n k b p) ∙ begins_list w m l c q) in
+    sym (held_length w n k b) ∙ ap (λ x. length (delta x)) s.0 ∙ held_length w m l c
+
+-- where no code is there as far as the bits go, they end inside the last one
+pub last_cut : (w z g : ℕ) (left : List Bool) → Shows w left → Head w z → CodeValue w z g → g ≤ 32 → ((n k : ℕ) → Begins w n k → k ≤ 57 → k ≤ length left → ⊥) → IsCut left
+last_cut w z g left s h c small none =
+    let few = h.few in
+    elim (cases_lt (length left) (2 * z + 1 + (g - 1))) [
+      | inl l ↦ rest_cut w z g left s h c small l
+      | inr there ↦ absurd (none (w / 2 ^ (64 - (2 * z + 1 + (g - 1))) - (g - 1) * 2 ^ (g - 1)) (2 * z + 1 + (g - 1)) (begins_value w z g c) (omega arith) there)
+    ]
+
 -- ---- the reader
 
 open_refusal : (unread : Unread) (e : CodeError) → IsRefused unread e → ((e ≡ TooLarge unread.place) × IsTooLarge unread.left) ⊎ ((e ≡ Cut unread.place) × IsCut unread.left)
@@ -322,3 +412,34 @@ refused_too_large unread e h =
 pub refused_cut : (unread : Unread) (e : CodeError) → IsRefused unread e → (e ≡ Cut unread.place → IsCut unread.left) × (IsCut unread.left → e ≡ Cut unread.place)
 refused_cut unread e h =
     elim (open_refusal unread e h) [ inl w ↦ (λ x. let a = w.0 in absurd cc, λ x. absurd (x.no_larger w.1)) | inr w ↦ (λ _. w.1, λ _. w.0) ]
+
+pub left_length : (bytes : List ℕ) (at : ℕ) (unread : Unread) → record { left = drop at (bits bytes); place = at } ≡ unread → 8 * length bytes - at ≡ length unread.left
+left_length bytes at unread e =
+    let l : length unread.left ≡ length (bits bytes) - at = ap (λ u. length u.left) (sym e) ∙ length-drop at (bits bytes) in
+    let k = length-bits bytes in
+    omega arith
+
+-- What a reader is where it has passed a code of k bits.
+pub record Passed (bytes : List ℕ) (at count w n k : ℕ) (unread : Unread) : Type 0 where
+  pub inside : at + k ≤ 8 * length bytes
+  pub holds : Holds (count - k) (w * 2 ^ k % 2 ^ 64) (drop (at + k) (bits bytes))
+  pub number : unread.left ≡ delta n ++ drop (at + k) (bits bytes)
+  pub place : at + k ≡ unread.place + length (delta n)
+
+pub passed : (bytes : List ℕ) (at count w n k : ℕ) (unread : Unread) → record { left = drop at (bits bytes); place = at } ≡ unread → at ≤ 8 * length bytes → Holds count w unread.left → Begins w n k → k ≤ count → Passed bytes at count w n k unread
+passed bytes at count w n k unread e a h b l =
+    let size = left_length bytes at unread e in
+    let within = h.within in
+    let left : unread.left ≡ drop at (bits bytes) = ap (λ u. u.left) (sym e) in
+    let rest : drop k unread.left ≡ drop (at + k) (bits bytes) = ap (drop k) left ∙ drop-drop k at (bits bytes) in
+    let place : at ≡ unread.place = ap (λ u. u.place) e in
+    let code = held_length w n k b in
+    record {
+      inside = omega arith;
+      holds = subst (λ x. Holds (count - k) (w * 2 ^ k % 2 ^ 64) x) rest (holds_passed count k w unread.left l h);
+      number = held_next count w n k unread.left h b l ∙ ap (λ x. delta n ++ x) rest;
+      place = omega arith;
+    }
+
+pub held_here : (bytes : List ℕ) (at count w : ℕ) (unread : Unread) → record { left = drop at (bits bytes); place = at } ≡ unread → Holds count w (drop at (bits bytes)) → Holds count w unread.left
+held_here bytes at count w unread e h = subst (λ x. Holds count w x) (ap (λ u. u.left) e) h

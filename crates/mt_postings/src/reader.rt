@@ -1,8 +1,8 @@
 //! A reader of bits.
 
-ghost use Rattle.std.specs.Prelude.{◌≡◌, ℕ, ◌+◌, ◌-◌, ◌*◌, ◌^◌, ◌<◌, ◌≤◌, ◌↔◌, Bool, false, List as Items, ◌++◌, length, take, drop, replicate, MatchBool, IfOk, IfErr, OnErr};
+ghost use Rattle.std.specs.Prelude.{◌≡◌, ℕ, ◌+◌, ◌-◌, ◌*◌, ◌^◌, ◌<◌, ◌≤◌, ◌↔◌, Bool, false, List as Items, ◌++◌, length, take, drop, replicate, MatchBool, IfOk, IfErr, IfSome, IfNone, OnErr};
 ghost use Rattle.mt_store_spec.specs.Codes.{digits, delta, bits, Unread, IsTooLarge, IsCut};
-ghost use Rattle.mt_postings.specs.Words.{Shows};
+ghost use Rattle.mt_postings.specs.Words.{Shows, Begins};
 ghost use Rattle.mt_postings.specs.Refused.{IsRefused};
 
 use super::error::CodeError;
@@ -14,6 +14,10 @@ pub struct BitReader<'a> {
     bytes: &'a [u8],
     /// The place of the next bit.
     at: u64,
+    /// Some of the next bits, the first of them in the highest place.
+    word: u64,
+    /// How many bits `word` has.
+    held: u32,
 }
 
 impl<'a> Model for BitReader<'a> {
@@ -24,7 +28,10 @@ impl<'a> Model for BitReader<'a> {
 
     ghost view = { λ r. record { left = drop r.at (bits r.bytes.now); place = r.at } };
 
-    ghost invariant = { λ r. (r.at ≤ 8 * length r.bytes.now) × (length r.bytes.now < 4294967296) };
+    ghost use Rattle.mt_postings.specs.Words.{Holds};
+
+    ghost invariant = { λ r. (r.at ≤ 8 * length r.bytes.now) × (length r.bytes.now < 4294967296)
+        × Holds r.held r.word (drop r.at (bits r.bytes.now)) };
 }
 
 /// Bytes, and zeros after them.
@@ -48,18 +55,49 @@ fn first_word(bytes: &[u8]) -> u64
     }
 }
 
+/// The number whose code begins at the highest place of a word, and how many bits the code has. None where these are
+/// more than `held`, or it is no code.
+#[inline]
+fn code_in(word: u64, held: u32) -> Option<(u32, u32)>
+    requires { held ≤ 57 }
+    ensures code { IfSome result (λ code. Begins word code.0 code.1) }
+    ensures within { IfSome result (λ code. code.1 ≤ held) }
+    ensures none { IfNone result ((n k : ℕ) → Begins word n k → k ≤ held → ⊥) }
+{
+    if word >> 58 == 0 {
+        return None;
+    }
+    let head = 2 * (63 - word.ilog2()) + 1;
+    let digits = word >> (64 - head);
+    if digits > 32 {
+        return None;
+    }
+    let low = digits as u32 - 1;
+    let length = head + low;
+    if length > held {
+        return None;
+    }
+    let n = (word >> (64 - length)) - ((low as u64) << low);
+    Some((n as u32, length))
+}
+
 impl<'a> BitReader<'a> {
     /// A reader before the first bit.
     pub fn new(bytes: &'a [u8]) -> Self
         requires { length bytes.now < 4294967296 }
         ensures { result ≡ record { left = bits bytes.now; place = 0 } }
     {
-        BitReader { bytes, at: 0 }
+        BitReader {
+            bytes,
+            at: 0,
+            word: 0,
+            held: 0,
+        }
     }
 
     /// The next 57 bits, the first of them in the highest place.
     #[inline]
-    fn word(&self) -> u64
+    fn next_word(&self) -> u64
         ensures { Shows result self.now.left }
     {
         let from = (self.at / 8) as usize;
@@ -67,39 +105,29 @@ impl<'a> BitReader<'a> {
         first_word(&self.bytes[from..]) << skip
     }
 
-    /// The number whose code is next, and how many bits the code has.
+    /// Why no number is read here, where the word shows the next bits.
     #[inline]
-    fn first(&self) -> Result<(u32, u32), CodeError>
-        ensures range { IfOk result (λ code. (1 ≤ code.0) × (code.0 < 4294967296)) }
-        ensures code { IfOk result (λ code. self.now.left ≡ delta code.0 ++ drop code.1 self.now.left) }
-        ensures length { IfOk result (λ code. length (delta code.0) ≡ code.1) }
-        ensures err { IfErr result (λ e. IsRefused self.now e) }
+    fn refusal(&self, word: u64) -> CodeError
+        requires shown { Shows word self.now.left }
+        requires none { (n k : ℕ) → Begins word n k → k ≤ 57 → k ≤ length self.now.left → ⊥ }
+        ensures { IsRefused self.now result }
     {
         let left = 8 * self.bytes.len() as u64 - self.at;
-        let word = self.word();
         if word >> 58 == 0 {
             return if left < 6 {
-                Err(CodeError::Cut(self.at))
+                CodeError::Cut(self.at)
             } else {
-                Err(CodeError::TooLarge(self.at))
+                CodeError::TooLarge(self.at)
             };
         }
-        let top = word.ilog2();
-        let head = 2 * (63 - top) + 1;
+        let head = 2 * (63 - word.ilog2()) + 1;
         if left < head as u64 {
-            return Err(CodeError::Cut(self.at));
+            return CodeError::Cut(self.at);
         }
-        let digits = word >> (2 * top - 63);
-        if digits > 32 {
-            return Err(CodeError::TooLarge(self.at));
+        if word >> (64 - head) > 32 {
+            return CodeError::TooLarge(self.at);
         }
-        let low = digits as u32 - 1;
-        let length = head + low;
-        if left < length as u64 {
-            return Err(CodeError::Cut(self.at));
-        }
-        let n = (word >> (64 - length)) - ((low as u64) << low);
-        Ok((n as u32, length))
+        CodeError::Cut(self.at)
     }
 
     /// Reads the number whose Elias delta code is next. It takes no memory.
@@ -113,12 +141,39 @@ impl<'a> BitReader<'a> {
         ensures err { IfErr result (λ e. IsRefused self.old e) }
         ensures unchanged { OnErr result (self.new ≡ self.old) }
     {
-        match self.first() {
-            Ok((n, length)) => {
+        match code_in(self.word, self.held) {
+            Some((n, length)) => {
                 self.at += length as u64;
+                self.word <<= length;
+                self.held -= length;
                 Ok(n)
             }
-            Err(refusal) => Err(refusal),
+            None => self.get_from_bytes(),
+        }
+    }
+
+    /// The same, by a word that is read from the bytes anew. What the code leaves of it is held.
+    #[inline(always)]
+    fn get_from_bytes(&mut self) -> Result<u32, CodeError>
+        ensures positive { IfOk result (λ n. 1 ≤ n) }
+        ensures number { IfOk result (λ n. self.old.left ≡ delta n ++ self.new.left) }
+        ensures place { IfOk result (λ n. self.new.place ≡ self.old.place + length (delta n)) }
+        ensures too_large { (result ≡ Err (CodeError.TooLarge self.old.place)) ↔ IsTooLarge self.old.left }
+        ensures cut { (result ≡ Err (CodeError.Cut self.old.place)) ↔ IsCut self.old.left }
+        ensures err { IfErr result (λ e. IsRefused self.old e) }
+        ensures unchanged { OnErr result (self.new ≡ self.old) }
+    {
+        let left = 8 * self.bytes.len() as u64 - self.at;
+        let word = self.next_word();
+        let held = left.min(57) as u32;
+        match code_in(word, held) {
+            Some((n, length)) => {
+                self.at += length as u64;
+                self.word = word << length;
+                self.held = held - length;
+                Ok(n)
+            }
+            None => Err(self.refusal(word)),
         }
     }
 
@@ -135,6 +190,6 @@ impl<'a> BitReader<'a> {
             ((n : ℕ) × (n < 8) × (self.now.left ≡ replicate n false))
             ((n : ℕ) → n < 8 → self.now.left ≡ replicate n false → ⊥) }
     {
-        8 * self.bytes.len() as u64 - self.at < 8 && self.word() >> 56 == 0
+        8 * self.bytes.len() as u64 - self.at < 8 && self.next_word() >> 56 == 0
     }
 }

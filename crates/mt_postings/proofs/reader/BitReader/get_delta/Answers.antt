@@ -1,36 +1,33 @@
-use Rattle.std.proofs.Common.{◌≡◌, ◌-◌, length, drop, Err, sym, ap, ◌∙◌, arith}
-use Rattle.std.proofs.lemmas.List.{length-drop, length-append}
-use Rattle.mt_store_spec.specs.Codes.{bits, delta}
-use Rattle.mt_postings.proofs.Words.{length-bits}
+use Rattle.std.proofs.Common.{ℕ, ◌≡◌, ◌+◌, ◌*◌, ◌≤◌, List, length, drop}
+use Rattle.mt_store_spec.specs.Codes.{bits, Unread}
+use Rattle.mt_postings.specs.Words.{Holds, Begins}
 use Rattle.mt_postings.proofs.Refusals.{code_not_large, code_not_cut}
-use Rattle.mt_postings.proofs.Heads.{refused_too_large, refused_cut}
+use Rattle.mt_postings.proofs.Heads.{Passed, passed, held_here}
 use Rattle.mt_postings.proofs.reader.BitReader.get_delta.Goals as goal
+
+-- what is passed by a code in the bits that are held
+here : (bytes : List ℕ) (at held w n k : ℕ) (unread : Unread) → record { left = drop at (bits bytes); place = at } ≡ unread → at ≤ 8 * length bytes → Holds held w (drop at (bits bytes)) → Begins w n k → k ≤ held → Passed bytes at held w n k unread
+here bytes at held w n k unread e a h b l = passed bytes at held w n k unread e a (held_here bytes at held w unread e h) b l
 
 pub invariant_of-self : goal.invariant_of-self
 invariant_of-self c =
-    let view : record { left = drop c.self.inside.at (bits c.self.inside.bytes.now); place = c.self.inside.at } ≡ c.args.self.now = c.self.view_is in
-    let l : length c.args.self.now.left ≡ length (bits c.self.inside.bytes.now) - c.self.inside.at = ap (λ u. length u.left) (sym view) ∙ length-drop c.self.inside.at (bits c.self.inside.bytes.now) in
-    let k = length-bits c.self.inside.bytes.now in
-    let code = ap length c.in-Ok.ensures.code in
-    let m = length-append (delta c.in-Ok.n) (drop c.in-Ok.length c.args.self.now.left) in
-    let n = c.in-Ok.ensures.length in
-    let low = c.self.invariant.0 in
-    (omega arith, c.self.invariant.1)
+    let p = here c.self.inside.bytes.now c.self.inside.at c.self.inside.held c.self.inside.word c.in-Some.n c.in-Some.length c.args.self.now c.self.view_is c.self.invariant.0 c.self.invariant.2 c.in-Some.ensures.code c.in-Some.ensures.within in
+    (p.inside, c.self.invariant.1, p.holds)
 
-pub returns-in-Ok-clause-too_large : goal.returns-in-Ok-clause-too_large
-returns-in-Ok-clause-too_large c =
-    (λ e. absurd cc, λ h. absurd (code_not_large c.in-Ok.n c.args.self.now.left (drop c.in-Ok.length c.args.self.now.left) c.in-Ok.ensures.range.0 c.in-Ok.ensures.range.1 c.in-Ok.ensures.code h))
+pub returns-in-Some-clause-number : goal.returns-in-Some-clause-number
+returns-in-Some-clause-number c =
+    (here c.self.inside.bytes.now c.self.inside.at c.self.inside.held c.self.inside.word c.in-Some.n c.in-Some.length c.args.self.now c.self.view_is c.self.invariant.0 c.self.invariant.2 c.in-Some.ensures.code c.in-Some.ensures.within).number
 
-pub returns-in-Ok-clause-cut : goal.returns-in-Ok-clause-cut
-returns-in-Ok-clause-cut c =
-    (λ e. absurd cc, λ h. absurd (code_not_cut c.in-Ok.n c.args.self.now.left (drop c.in-Ok.length c.args.self.now.left) c.in-Ok.ensures.range.0 c.in-Ok.ensures.code h))
+pub returns-in-Some-clause-place : goal.returns-in-Some-clause-place
+returns-in-Some-clause-place c =
+    (here c.self.inside.bytes.now c.self.inside.at c.self.inside.held c.self.inside.word c.in-Some.n c.in-Some.length c.args.self.now c.self.view_is c.self.invariant.0 c.self.invariant.2 c.in-Some.ensures.code c.in-Some.ensures.within).place
 
-pub returns-in-Err-clause-too_large : goal.returns-in-Err-clause-too_large
-returns-in-Err-clause-too_large c =
-    let h = refused_too_large c.args.self.now c.in-Err.refusal c.in-Err.ensures.err in
-    (λ e. h.0 cc, λ e. ap Err (h.1 e))
+pub returns-in-Some-clause-too_large : goal.returns-in-Some-clause-too_large
+returns-in-Some-clause-too_large c =
+    let p = here c.self.inside.bytes.now c.self.inside.at c.self.inside.held c.self.inside.word c.in-Some.n c.in-Some.length c.args.self.now c.self.view_is c.self.invariant.0 c.self.invariant.2 c.in-Some.ensures.code c.in-Some.ensures.within in
+    (λ e. absurd cc, λ h. absurd (code_not_large c.in-Some.n c.args.self.now.left (drop (c.self.inside.at + c.in-Some.length) (bits c.self.inside.bytes.now)) c.in-Some.ensures.code.positive c.in-Some.ensures.code.small p.number h))
 
-pub returns-in-Err-clause-cut : goal.returns-in-Err-clause-cut
-returns-in-Err-clause-cut c =
-    let h = refused_cut c.args.self.now c.in-Err.refusal c.in-Err.ensures.err in
-    (λ e. h.0 cc, λ e. ap Err (h.1 e))
+pub returns-in-Some-clause-cut : goal.returns-in-Some-clause-cut
+returns-in-Some-clause-cut c =
+    let p = here c.self.inside.bytes.now c.self.inside.at c.self.inside.held c.self.inside.word c.in-Some.n c.in-Some.length c.args.self.now c.self.view_is c.self.invariant.0 c.self.invariant.2 c.in-Some.ensures.code c.in-Some.ensures.within in
+    (λ e. absurd cc, λ h. absurd (code_not_cut c.in-Some.n c.args.self.now.left (drop (c.self.inside.at + c.in-Some.length) (bits c.self.inside.bytes.now)) c.in-Some.ensures.code.positive p.number h))

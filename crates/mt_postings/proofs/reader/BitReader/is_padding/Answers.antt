@@ -16,7 +16,7 @@ left_length bytes at unread e =
 pub returns-then-self-lt8 : goal.returns-then-self-lt8
 returns-then-self-lt8 c =
     let n = left_length c.self.inside.bytes.now c.self.inside.at c.args.self.now c.self.view_is in
-    padding_told c.word.result c.args.self.now.left c.word.ensures (omega arith)
+    padding_told c.next_word.result c.args.self.now.left c.next_word.ensures (omega arith)
 
 pub returns-else-self-lt8 : goal.returns-else-self-lt8
 returns-else-self-lt8 c =

@@ -4,7 +4,7 @@ use Rattle.mt_store_spec.specs.Codes.{bits}
 use Rattle.mt_postings.specs.Words.{Shows}
 use Rattle.mt_postings.proofs.Words.{drop-bits, length-bits}
 use Rattle.mt_postings.proofs.Heads.{word_moved}
-use Rattle.mt_postings.proofs.reader.BitReader.word.Goals as goal
+use Rattle.mt_postings.proofs.reader.BitReader.next_word.Goals as goal
 
 pub returns : goal.returns
 returns c =
