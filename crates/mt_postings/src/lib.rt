@@ -1,0 +1,35 @@
+//! Posting lists: ascending lists of positions, cursors over them, and their codes.
+//!
+//! Contracts see `Postings` as the list of its positions, a `Cursor` as the positions that are left, a `BitWriter` as the
+//! bits written, and a `BitReader` as the bits that are left and the place of the next one.
+#![tactic(auto)]
+
+mod cursor;
+mod decoding;
+mod error;
+mod laws;
+mod postings;
+mod reader;
+mod writer;
+
+pub use cursor::Cursor;
+pub use error::{CodeError, DecodeError};
+pub use laws::{has_one_code, have_one_list, read_back, told_by_members};
+pub use postings::Postings;
+pub use reader::BitReader;
+pub use writer::BitWriter;
+
+fn shared<T: Send + Sync>() {}
+
+/// That threads may share these types is proved by this function.
+pub fn are_shared() {
+    shared::<Postings>();
+    shared::<Cursor<'static>>();
+    shared::<BitWriter>();
+    shared::<BitReader<'static>>();
+    shared::<CodeError>();
+    shared::<DecodeError>();
+}
+
+#[cfg(test)]
+mod tests;

@@ -1,0 +1,125 @@
+//! A writer of bits.
+
+ghost use Rattle.std.specs.Prelude.{◌≡◌, ℕ, ◌+◌, ◌*◌, ◌^◌, ◌<◌, ◌≤◌, Bool, false, List as Items, [], ◌++◌, replicate, vec_len, vec_capacity, OnOk, OnErr};
+ghost use Rattle.std.specs.Int.{w64, to_be_bytes};
+ghost use Rattle.mt_store_spec.specs.Codes.{digits, delta, bits};
+
+use mt_base::{List, NoMemory};
+use std::alloc::Global;
+use std::marker::Model;
+
+/// Bits that are gathered into a word of 64 and go into the bytes a word at a time.
+#[derive(Drop)]
+pub struct BitWriter {
+    bytes: Vec<u8>,
+    /// The last bits, in its lowest places.
+    word: u64,
+    /// How many bits `word` has.
+    held: u32,
+}
+
+impl Model for BitWriter {
+    ghost use Rattle.std.specs.Prelude.{List, Bool, ℕ, ◌<◌, ◌≤◌, ◌+◌, ◌^◌, ◌++◌, vec_len, vec_capacity};
+    ghost use Rattle.mt_store_spec.specs.Codes.{digits, bits};
+
+    ghost Value = { List Bool };
+
+    ghost view = { λ w. bits w.bytes.items ++ digits w.held w.word };
+
+    ghost invariant = { λ w. (w.held < 64) × (w.word < 2 ^ w.held) × (0 < w.held → vec_len w.bytes + 8 ≤ vec_capacity w.bytes) };
+}
+
+/// The code of a number as the lowest bits of a word, and how many they are.
+#[inline(always)]
+fn delta_word(n: u32) -> (u64, u32)
+    requires { 1 ≤ n }
+    ensures code { digits result.1 result.0 ≡ delta n }
+    ensures fits { result.0 < 2 ^ result.1 }
+    ensures length { result.1 ≤ 42 }
+{
+    let low = n.ilog2();
+    let zeros = (low + 1).ilog2();
+    let word = ((low as u64) << low) + n as u64;
+    (word, 2 * zeros + 1 + low)
+}
+
+/// Adds a word at the end, with room for another after it.
+fn push_word(bytes: &mut Vec<u8>, word: u64) -> Result<(), NoMemory>
+    ensures ok { OnOk result (bytes.new.items ≡ bytes.old.items ++ to_be_bytes w64 word) }
+    ensures room { OnOk result (vec_len bytes.new + 8 ≤ vec_capacity bytes.new) }
+    ensures err { OnErr result (bytes.new.items ≡ bytes.old.items) }
+    ensures kept { OnErr result (vec_len bytes.new ≡ vec_len bytes.old) }
+    ensures capacity { vec_capacity bytes.old ≤ vec_capacity bytes.new }
+{
+    bytes.reserve(16)?;
+    bytes.extend_from_slice(&word.to_be_bytes())?;
+    Ok(())
+}
+
+impl BitWriter {
+    /// No bits yet. It takes no memory.
+    pub fn new(alloc: Global) -> Self
+        ensures { result ≡ [] }
+    {
+        BitWriter {
+            bytes: Vec::new(alloc),
+            word: 0,
+            held: 0,
+        }
+    }
+
+    /// Writes the Elias delta code of a number. Without memory nothing is written.
+    #[inline(always)]
+    pub fn put_delta(&mut self, n: u32) -> Result<(), NoMemory>
+        requires { 1 ≤ n }
+        ensures ok { OnOk result (self.new ≡ self.old ++ delta n) }
+        ensures err { OnErr result (self.new ≡ self.old) }
+    {
+        let (word, count) = delta_word(n);
+        self.put(word, count)
+    }
+
+    /// Writes the lowest `count` bits of a word.
+    #[inline(always)]
+    fn put(&mut self, word: u64, count: u32) -> Result<(), NoMemory>
+        requires fits { word < 2 ^ count }
+        requires few { count ≤ 42 }
+        ensures ok { OnOk result (self.new ≡ self.old ++ digits count word) }
+        ensures err { OnErr result (self.new ≡ self.old) }
+    {
+        let held = self.held + count;
+        if held < 64 {
+            self.bytes.reserve(8)?;
+            self.word = (self.word << count) + word;
+            self.held = held;
+        } else {
+            let rest = held - 64;
+            let full = (self.word << (64 - self.held)) + (word >> rest);
+            push_word(&mut self.bytes, full)?;
+            self.word = word & ((1 << rest) - 1);
+            self.held = rest;
+        }
+        Ok(())
+    }
+
+    /// The bytes of what was written, after as many zeros as fill the last byte. It takes no memory.
+    pub fn finish(self) -> List<u8>
+        ensures { (padding : ℕ) × (padding < 8) × (bits result ≡ self ++ replicate padding false) }
+    {
+        let BitWriter {
+            mut bytes,
+            word,
+            held,
+        } = self;
+        if held == 0 {
+            return List::from_vec(bytes);
+        }
+        let last = (word << (64 - held)).to_be_bytes();
+        let count = (held as usize + 7) / 8;
+        // The room was taken when the bits came.
+        match bytes.extend_from_slice(&last[..count]) {
+            Ok(()) => List::from_vec(bytes),
+            Err(_) => unreachable!(),
+        }
+    }
+}
