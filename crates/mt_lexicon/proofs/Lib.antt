@@ -1,3 +1,6 @@
 pub mod Blocks
+pub mod FirstSight
 pub mod Halves
 pub mod Order
+pub mod Renumbered
+pub mod Sorted

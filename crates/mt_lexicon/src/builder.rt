@@ -1,6 +1,9 @@
 //! Numbering values as they are seen.
 
-ghost use Rattle.std.specs.Prelude.{◌≡◌, ◌^◌, ◌<◌, [], length, slice_get, Some, IfOk, OnOk, OnErr};
+ghost use Rattle.std.specs.Prelude.{◌≡◌, ◌-◌, ◌^◌, ◌<◌, [], length, map, slice_get, Some, string_bytes, IfOk, OnOk, OnErr};
+ghost use Rattle.std.specs.List.{IsDistinct};
+ghost use Rattle.std.specs.String.{string_eq};
+ghost use Rattle.mt_lexicon.specs.Entries.{IsNumbered, IsSortedNumbering};
 ghost use Rattle.mt_store_spec.specs.Lexicons.{IsLexiconOf, Renumbers, seen_with};
 
 use super::lexicon::Lexicon;
@@ -54,4 +57,57 @@ impl LexiconBuilder {
         let (number, _) = self.seen.insert_full(key)?;
         Ok(number as u32)
     }
+
+    /// The lexicon of the values, and the number there for each number given.
+    pub fn finish(self) -> Result<(Lexicon, Renumbering), NoMemory>
+        ensures lexicon { IfOk result (λ r. IsLexiconOf self r.0) }
+        ensures numbers { IfOk result (λ r. Renumbers r.1 self r.0) }
+    {
+        let alloc = self.alloc;
+        let entries = sorted_entries(alloc, self.seen.as_slice())?;
+        let mut values = Strings::new(alloc);
+        let mut numbers = vec![in alloc; 0u32; entries.len()]?;
+        for entry in &entries {
+            numbers[entry.number as usize] = values.len() as u32;
+            values.push(entry.value)?;
+        }
+        Ok((
+            Lexicon::from_strings(values),
+            Renumbering::from_vec(numbers),
+        ))
+    }
+}
+
+/// A value and its number by first sight. Entries stand in the order of their values.
+#[derive(Debug, PartialEq, Eq, PartialOrd, Ord, Drop)]
+struct Entry<'a> {
+    value: &'a str,
+    number: u32,
+}
+
+/// The keys with their places, in ascending order.
+fn sorted_entries<'a>(alloc: Global, keys: &'a [String]) -> Result<Vec<Entry<'a>>, NoMemory>
+    requires few { length keys.now < 2 ^ 32 }
+    requires distinct { IsDistinct string_eq keys.now }
+    ensures { IfOk result (λ entries. IsSortedNumbering (map (λ key. string_bytes key) keys.now) (map (λ entry. (entry.value.now, entry.number)) entries.items)) }
+{
+    let mut entries = numbered_entries(alloc, keys)?;
+    entries.sort_unstable();
+    Ok(entries)
+}
+
+/// The keys with their places, in their order.
+fn numbered_entries<'a>(alloc: Global, keys: &'a [String]) -> Result<Vec<Entry<'a>>, NoMemory>
+    requires { length keys.now < 2 ^ 32 }
+    ensures { IfOk result (λ entries. IsNumbered (map (λ key. string_bytes key) keys.now) (map (λ entry. (entry.value.now, entry.number)) entries.items)) }
+{
+    let mut entries = Vec::with_capacity(alloc, keys.len())?;
+    for (place, key) in keys.iter().enumerate() {
+        let number = place as u32;
+        entries.push(Entry {
+            value: key.as_str(),
+            number,
+        })?;
+    }
+    Ok(entries)
 }
