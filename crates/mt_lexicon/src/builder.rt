@@ -3,7 +3,7 @@
 ghost use Rattle.std.specs.Prelude.{◌≡◌, ◌-◌, ◌^◌, ◌<◌, [], length, map, slice_get, Some, string_bytes, IfOk, OnOk, OnErr};
 ghost use Rattle.std.specs.List.{IsDistinct};
 ghost use Rattle.std.specs.String.{string_eq};
-ghost use Rattle.mt_lexicon.specs.Entries.{IsNumbered, IsSortedNumbering};
+ghost use Rattle.mt_lexicon.specs.Entries.{IsNumbering, IsSortedNumbering};
 ghost use Rattle.mt_store_spec.specs.Lexicons.{IsLexiconOf, Renumbers, seen_with};
 
 use super::lexicon::Lexicon;
@@ -99,7 +99,7 @@ fn sorted_entries<'a>(alloc: Global, keys: &'a [String]) -> Result<Vec<Entry<'a>
 /// The keys with their places, in their order.
 fn numbered_entries<'a>(alloc: Global, keys: &'a [String]) -> Result<Vec<Entry<'a>>, NoMemory>
     requires { length keys.now < 2 ^ 32 }
-    ensures { IfOk result (λ entries. IsNumbered (map (λ key. string_bytes key) keys.now) (map (λ entry. (entry.value.now, entry.number)) entries.items)) }
+    ensures { IfOk result (λ entries. IsNumbering (map (λ key. string_bytes key) keys.now) (length keys.now) (map (λ entry. (entry.value.now, entry.number)) entries.items)) }
 {
     let mut entries = Vec::with_capacity(alloc, keys.len())?;
     for (place, key) in keys.iter().enumerate() {
