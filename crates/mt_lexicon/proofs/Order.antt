@@ -1,8 +1,9 @@
 -- The order of bytes.
-use Rattle.std.proofs.Common.{◌≡◌, ℕ, ◌+◌, ◌<◌, ◌≤◌, List, [], length, get_or, slice_get, Some, refl, sym, ◌∙◌, ap, subst, arith, ◌⊎◌, inl, inr, true, Bool}
+use Rattle.std.proofs.Common.{◌≡◌, ℕ, ◌+◌, ◌<◌, ◌≤◌, List, [], length, get_or, slice_get, Option, Some, None, refl, sym, ◌∙◌, ap, subst, arith, ◌⊎◌, inl, inr, true, Bool}
 use Rattle.std.specs.Ordering.{nat_cmp, ordering_reverse, is_eq}
 use Rattle.std.specs.Cmp.{IsTotalOrder}
 use Rattle.std.specs.Cmp.Lexicographic.{slice_cmp, nat_list_cmp_total, texts_ties, bytes_decides}
+use Rattle.std.specs.declared.cmp.Ordering.{Ordering}
 use Rattle.std.specs.declared.cmp.Ordering.TheVariants.{Less, Equal, Greater}
 use Rattle.std.specs.List.{Contains}
 use Rattle.std.proofs.lemmas.Bool.{cases_lt}
@@ -10,6 +11,7 @@ use Rattle.std.proofs.lemmas.Cmp.{tied_itself}
 use Rattle.std.proofs.lemmas.List.{get_or_default}
 use Rattle.std.proofs.lemmas.Option.{get_or_from_slice_get, slice_get_within}
 use Rattle.mt_store_spec.specs.Lexicons.{IsBelow, IsAscending}
+use Rattle.mt_lexicon.specs.Joins.{ComesNext}
 
 pub chained : (a b c : List ℕ) → IsBelow a b → IsBelow b c → IsBelow a c
 chained a b c h g = let o : IsTotalOrder (slice_cmp nat_cmp) = nat_list_cmp_total in o.trans a b c h g
@@ -61,3 +63,20 @@ absent values value low high below above met (k, l, e) =
       by : (k < low) ⊎ (low ≤ k) → get_or values k [] ≡ value → ⊥
       by (inl j) at = not_below_itself value (rw at at (below k j))
       by (inr j) at = not_below_itself value (rw at at (above k (omega arith) l))
+
+-- what a comparison of two next values says
+pub compared : (first : List (List ℕ)) (i : ℕ) (second : List (List ℕ)) (j : ℕ) (a b : List ℕ) (o : Ordering) → slice_get first i ≡ Some a → slice_get second j ≡ Some b → o ≡ slice_cmp nat_cmp a b →
+    ComesNext first i second j (Some o)
+compared first i second j a b o at there e =
+    by o e (slice_get_within first i a at) (slice_get_within second j b there) (read_at first i a at) (read_at second j b there)
+  where
+    by : (o : Ordering) → o ≡ slice_cmp nat_cmp a b → i < length first → j < length second → get_or first i [] ≡ a → get_or second j [] ≡ b → ComesNext first i second j (Some o)
+    by Less e l m p q = (l, λ _. rw (p, q) (sym e))
+    by Equal e l m p q = (l, m, p ∙ same_from_equal a b (sym e) ∙ sym q)
+    by Greater e l m p q = (m, λ _. rw (p, q) (flipped a b (sym e)))
+
+-- where neither list has a next value, both are at their ends
+pub ended : (first : List (List ℕ)) (i : ℕ) (second : List (List ℕ)) (j : ℕ) (o : Option Ordering) → ComesNext first i second j o → ((x : Ordering) → o ≡ Some x → ⊥) →
+    (i ≡ length first) × (j ≡ length second)
+ended first i second j None h n = h
+ended first i second j (Some x) h n = absurd (n x refl)

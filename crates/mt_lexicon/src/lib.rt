@@ -7,6 +7,7 @@
 
 mod builder;
 mod lexicon;
+mod merger;
 mod renumbering;
 mod strings;
 
