@@ -13,4 +13,5 @@ mod strings;
 
 pub use builder::LexiconBuilder;
 pub use lexicon::Lexicon;
+pub use merger::LexiconMerger;
 pub use renumbering::Renumbering;

@@ -1,7 +1,8 @@
 //! From old numbers to new ones.
 
-ghost use Rattle.std.specs.Prelude.{◌≡◌, ◌<◌, length, slice_index, nat_eq, map};
+ghost use Rattle.std.specs.Prelude.{◌≡◌, ◌<◌, length, slice_index, nat_eq};
 ghost use Rattle.std.specs.List.{All};
+ghost use Rattle.mt_lexicon.specs.Joins.{renumbered};
 
 use std::marker::Model;
 
@@ -52,7 +53,7 @@ impl Renumbering {
     /// Renumbers the new numbers in their turn.
     pub(crate) fn then(&mut self, next: &Renumbering)
         requires { All (λ n. n < length next.now) self.old }
-        ensures { self.new ≡ map (λ n. slice_index next.now n) self.old }
+        ensures { self.new ≡ renumbered next.now self.old }
     {
         for number in self.numbers.iter_mut() {
             *number = next.get(*number);

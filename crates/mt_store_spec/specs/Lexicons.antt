@@ -1,6 +1,6 @@
 -- What a lexicon is: the distinct values of an attribute in ascending order of their bytes, each numbered by its place, from 0.
 use Rattle.std.specs.Prelude.{ℕ, ◌≡◌, ◌<◌, List, [], ◌∷◌, ◌++◌, length, slice_get, slice_index, if◌then◌else◌}
-use Rattle.std.specs.List.{All, AllPairs, Contains, list_any}
+use Rattle.std.specs.List.{All, AllPairs, Contains, list_any, flat_map}
 use Rattle.std.specs.Str.{bytes_eq}
 use Rattle.std.specs.Ordering.{nat_cmp}
 use Rattle.std.specs.Cmp.Lexicographic.{slice_cmp}
@@ -28,3 +28,7 @@ pub record Renumbers (numbers : List ℕ) (old new : List (List ℕ)) : Type 0 w
 -- the values in the order in which they were first seen, after one more was seen
 abbrev pub seen_with : List (List ℕ) → List ℕ → List (List ℕ)
 seen_with values value = if list_any (bytes_eq value) values then values else values ++ value ∷ []
+
+-- the values of the parts, one part after the other
+abbrev pub all_values : List (List (List ℕ)) → List (List ℕ)
+all_values parts = flat_map (λ part. part) parts

@@ -1,5 +1,5 @@
-use Rattle.std.proofs.Common.{◌∙◌, arith, ◌<◌, length}
-use Rattle.mt_lexicon.proofs.Renumbered.{small, one_more}
+use Rattle.std.proofs.Common.{◌∙◌, arith, ◌<◌, length, slice_index}
+use Rattle.mt_lexicon.proofs.Renumbered.{small, one_changed_more}
 use Rattle.mt_lexicon.proofs.renumbering.Renumbering.then.Goals as goal
 
 pub get-requires : goal.get-requires
@@ -9,4 +9,4 @@ get-requires c =
 
 pub loop-number-preserved : goal.loop-number-preserved
 loop-number-preserved c =
-    one_more c.args.next.now c.loop-number.number-items c.deref_mut-number-items.result.now c.loop-number.number-index c.get.result c.loop-number.invariant (omega arith) c.get.ensures
+    one_changed_more (λ n. slice_index c.args.next.now n) c.loop-number.number-items c.deref_mut-number-items.result.now c.loop-number.number-index c.get.result 0 c.loop-number.invariant (omega arith) c.get.ensures
