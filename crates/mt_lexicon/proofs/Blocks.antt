@@ -42,10 +42,10 @@ boundary_stays : (block text : List ℕ) (i : ℕ) → IsUtf8 text → IsCharBou
 boundary_stays block text i u h =
     let seam : IsCharBoundary (block ++ text) (length block) = IsCharBoundary-at_seam (block ++ text) block text refl u in
     by (cases_lt i (length block)) seam
-    where
-      by : (i < length block) ⊎ (length block ≤ i) → IsCharBoundary (block ++ text) (length block) → IsCharBoundary (block ++ text) i
-      by (inl l) seam = (omega (arith, length-append block text), λ m high. rw (get_or_append_left block text 0 i l) (h.1 l (rw (get_or_append_left block text 0 i l) at high)))
-      by (inr l) seam = let e : length block ≡ i = omega (arith, h.0) in subst (IsCharBoundary (block ++ text)) e seam
+  where
+    by : (i < length block) ⊎ (length block ≤ i) → IsCharBoundary (block ++ text) (length block) → IsCharBoundary (block ++ text) i
+    by (inl l) seam = (omega (arith, length-append block text), λ m high. rw (get_or_append_left block text 0 i l) (h.1 l (rw (get_or_append_left block text 0 i l) at high)))
+    by (inr l) seam = let e : length block ≡ i = omega (arith, h.0) in subst (IsCharBoundary (block ++ text)) e seam
 
 pub pieces-push : (block text : List ℕ) (from : ℕ) (ends : List ℕ) → AreEnds block from ends →
     pieces (block ++ text) from (ends ++ (length block + length text) ∷ []) ≡ pieces block from ends ++ text ∷ []

@@ -1,5 +1,5 @@
 -- Values numbered as they are first seen, over keys that have bytes.
-use Rattle.std.proofs.Common.{◌≡◌, ℕ, ◌+◌, ◌<◌, Bool, true, false, ◌||◌, List, [], ◌∷◌, ◌++◌, length, map, get_or, slice_get, position, Option, Some, None, refl, sym, ◌∙◌, ap, subst, arith, if◌then◌else◌}
+use Rattle.std.proofs.Common.{◌≡◌, ℕ, ◌+◌, ◌<◌, ◌≤◌, Bool, true, false, ◌||◌, List, [], ◌∷◌, ◌++◌, length, map, get_or, slice_get, position, Option, Some, None, refl, sym, ◌∙◌, ap, subst, arith, length-append, if◌then◌else◌}
 use Rattle.std.specs.Option.{option_map}
 use Rattle.std.specs.List.{list_any}
 use Rattle.std.specs.Str.{bytes_eq}
@@ -32,7 +32,7 @@ module _ {X : Type 0} (f : X → List ℕ) where
       map f more ≡ seen_with (map f keys) value
   seen_first value keys more key grown e =
       let test : list_any (λ k. bytes_eq (f key) (f k)) keys ≡ list_any (bytes_eq value) (map f keys) =
-          ap (λ (v : List ℕ). list_any (λ k. bytes_eq v (f k)) keys) e ∙ sym (list_any-map (bytes_eq value) keys) in
+      ap (λ (v : List ℕ). list_any (λ k. bytes_eq v (f k)) keys) e ∙ sym (list_any-map (bytes_eq value) keys) in
       ap (map f) grown ∙ by (list_any (λ k. bytes_eq (f key) (f k)) keys) ∙ ap (λ (b : Bool). if b then map f keys else map f keys ++ value ∷ []) test
     where
       by : (b : Bool) → map f (if b then keys else keys ++ key ∷ []) ≡ (if b then map f keys else map f keys ++ value ∷ [])
@@ -43,3 +43,11 @@ module _ {X : Type 0} (f : X → List ℕ) where
   pub stored_at : (value : List ℕ) (more : List X) (key : X) (n : ℕ) → f key ≡ value → (k : X) × (slice_get more n ≡ Some k) × (bytes_eq (f key) (f k) ≡ true) → slice_get (map f more) n ≡ Some value
   stored_at value more key n e (k, at, same) =
       slice_get-map f more n ∙ ap (option_map f) at ∙ ap Some (sym ((bytes_decides (f key) (f k)).0 same) ∙ e)
+
+-- at most one value more
+pub length-seen_with : (values : List (List ℕ)) (value : List ℕ) → length (seen_with values value) ≤ length values + 1
+length-seen_with values value = by (list_any (bytes_eq value) values)
+  where
+    by : (b : Bool) → length (if b then values else values ++ value ∷ []) ≤ length values + 1
+    by true = omega arith
+    by false = omega (arith, length-append values (value ∷ []))

@@ -71,7 +71,7 @@ waits list j values others v h below = record {
       let at : slice_get list k ≡ Some (get_or list k []) = slice_get-get_or list k [] (omega (arith, h.within)) in
       kept values (v ∷ []) (get_or others k 0) (get_or list k []) (h.same k l ∙ at) ∙ sym at;
   low = λ l. All-push (λ w. IsBelow w (get_or list j [])) values v (h.low l) (below l);
-  }
+}
 
 -- ---- both sides
 
@@ -97,7 +97,7 @@ nothing_joined first second = record {
   ascending = λ i j d b l. absurd (omega arith);
   only = All-nil (Contains (first ++ second));
   short = omega arith;
-  }
+}
 
 module _ (first : List (List ℕ)) (i : ℕ) (second : List (List ℕ)) (j : ℕ) (values : List (List ℕ)) (numbers others : List ℕ) (n : ℕ) (v : List ℕ)
     (h : JoinsUpTo first i second j values numbers others) (e : n ≡ length values) where

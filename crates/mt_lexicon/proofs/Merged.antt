@@ -72,7 +72,7 @@ lexicon_of_both ones others first second values h g j = record {
       (All-weaker (Contains first) (Contains values) (λ x c. All-contains (Contains values) (first ++ second) x j.all (Contains-append_left first second x c)) ones h.all)
       (All-weaker (Contains second) (Contains values) (λ x c. All-contains (Contains values) (first ++ second) x j.all (Contains-append_right first second x c)) others g.all);
   only = All-weaker (Contains (first ++ second)) (Contains (ones ++ others)) (λ x c. from x (Contains-append_cases first second x c)) values j.only;
-  }
+}
   where
     from : (x : List ℕ) → Contains first x ⊎ Contains second x → Contains (ones ++ others) x
     from x (inl c) = Contains-append_left ones others x (All-contains (Contains ones) first x h.only c)

@@ -36,10 +36,10 @@ all_below values value x m up at less k l =
     let low : m < length values = slice_get_within values m x at in
     let last : IsBelow (get_or values m []) value = rw here less in
     by (cases_lt k m) here low last
-    where
-      by : (k < m) ⊎ (m ≤ k) → get_or values m [] ≡ x → m < length values → IsBelow (get_or values m []) value → IsBelow (get_or values k []) value
-      by (inl j) here low last = chained (get_or values k []) (get_or values m []) value (up k m [] j low) last
-      by (inr j) here low last = let e : m ≡ k = omega arith in subst (λ (n : ℕ). IsBelow (get_or values n []) value) e last
+  where
+    by : (k < m) ⊎ (m ≤ k) → get_or values m [] ≡ x → m < length values → IsBelow (get_or values m []) value → IsBelow (get_or values k []) value
+    by (inl j) here low last = chained (get_or values k []) (get_or values m []) value (up k m [] j low) last
+    by (inr j) here low last = let e : m ≡ k = omega arith in subst (λ (n : ℕ). IsBelow (get_or values n []) value) e last
 
 -- the values from one that is above a value are above it
 pub all_above : (values : List (List ℕ)) (value x : List ℕ) (m : ℕ) → IsAscending values → slice_get values m ≡ Some x → slice_cmp nat_cmp x value ≡ Greater →
@@ -48,10 +48,10 @@ all_above values value x m up at greater k l within =
     let here : get_or values m [] ≡ x = read_at values m x at in
     let first : IsBelow value (get_or values m []) = rw here (flipped x value greater) in
     by (cases_lt m k) first
-    where
-      by : (m < k) ⊎ (k ≤ m) → IsBelow value (get_or values m []) → IsBelow value (get_or values k [])
-      by (inl j) first = chained value (get_or values m []) (get_or values k []) first (up m k [] j within)
-      by (inr j) first = let e : m ≡ k = omega arith in subst (λ (n : ℕ). IsBelow value (get_or values n [])) e first
+  where
+    by : (m < k) ⊎ (k ≤ m) → IsBelow value (get_or values m []) → IsBelow value (get_or values k [])
+    by (inl j) first = chained value (get_or values m []) (get_or values k []) first (up m k [] j within)
+    by (inr j) first = let e : m ≡ k = omega arith in subst (λ (n : ℕ). IsBelow value (get_or values n [])) e first
 
 -- where each value is below or above a value, it is not among them
 pub absent : (values : List (List ℕ)) (value : List ℕ) (low high : ℕ) → ((k : ℕ) → k < low → IsBelow (get_or values k []) value) →
@@ -59,10 +59,10 @@ pub absent : (values : List (List ℕ)) (value : List ℕ) (low high : ℕ) → 
 absent values value low high below above met (k, l, e) =
     let at : get_or values k [] ≡ value = get_or_default values k [] value l ∙ e in
     by (cases_lt k low) at
-    where
-      by : (k < low) ⊎ (low ≤ k) → get_or values k [] ≡ value → ⊥
-      by (inl j) at = not_below_itself value (rw at at (below k j))
-      by (inr j) at = not_below_itself value (rw at at (above k (omega arith) l))
+  where
+    by : (k < low) ⊎ (low ≤ k) → get_or values k [] ≡ value → ⊥
+    by (inl j) at = not_below_itself value (rw at at (below k j))
+    by (inr j) at = not_below_itself value (rw at at (above k (omega arith) l))
 
 -- what a comparison of two next values says
 pub compared : (first : List (List ℕ)) (i : ℕ) (second : List (List ℕ)) (j : ℕ) (a b : List ℕ) (o : Ordering) → slice_get first i ≡ Some a → slice_get second j ≡ Some b → o ≡ slice_cmp nat_cmp a b →

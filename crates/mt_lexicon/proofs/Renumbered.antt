@@ -61,4 +61,4 @@ renumbers_then numbers next old middle new h g = record {
       let within : k < length numbers = omega (arith, h.count) in
       let low : get_or numbers k 0 < length middle = numbers_within numbers old middle h k 0 within in
       ap (slice_get new) (get_or-map (λ (n : ℕ). get_or next n 0) numbers k 0 0 within) ∙ g.same (get_or numbers k 0) low ∙ h.same k l;
-  }
+}

@@ -62,6 +62,7 @@ impl LexiconBuilder {
     pub fn finish(self) -> Result<(Lexicon, Renumbering), NoMemory>
         ensures lexicon { IfOk result (λ r. IsLexiconOf self r.0) }
         ensures numbers { IfOk result (λ r. Renumbers r.1 self r.0) }
+        ensures count { IfOk result (λ r. length r.0 ≡ length self) }
     {
         let alloc = self.alloc;
         let entries = sorted_entries(alloc, self.seen.as_slice())?;

@@ -15,3 +15,16 @@ pub use builder::LexiconBuilder;
 pub use lexicon::Lexicon;
 pub use merger::LexiconMerger;
 pub use renumbering::Renumbering;
+
+fn shared<T: Send + Sync>() {}
+
+/// That threads may share lexicons and renumberings, and what makes them, is proved by this function.
+pub fn are_shared() {
+    shared::<Lexicon>();
+    shared::<Renumbering>();
+    shared::<LexiconBuilder>();
+    shared::<LexiconMerger>();
+}
+
+#[cfg(test)]
+mod tests;

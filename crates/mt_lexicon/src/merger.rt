@@ -56,6 +56,7 @@ impl<'a> LexiconMerger<'a> {
     pub fn finish(self) -> Result<(Lexicon, List<Renumbering>), NoMemory>
         requires { length (all_values self) < 2 ^ 32 }
         ensures lexicon { IfOk result (λ r. IsLexiconOf (all_values self.entry) r.0) }
+        ensures short { IfOk result (λ r. length r.0 ≤ length (all_values self.entry)) }
         ensures numbers { IfOk result (λ r. AllZip (λ part numbers. Renumbers numbers part r.0) self.entry r.1) }
     {
         let merged = merge(self.alloc, self.parts.as_slice())?;

@@ -19,7 +19,7 @@ returns t c =
     (λ (merged : Merged). JoinsMerged c.in_ok-front.front.lexicon c.in_ok-back.back.lexicon merged.lexicon c.in_ok-front.front.renumberings.items c.in_ok-back.back.renumberings.items merged.renumberings.items)
     (λ (merged : Merged). Merges (map (λ part. part.now) c.args.parts.now) merged.lexicon merged.renumberings.items)
     (λ merged joined. halves_merged (map (λ part. part.now) c.args.parts.now) front back c.in_ok-front.front.lexicon c.in_ok-back.back.lexicon merged.lexicon
-        c.in_ok-front.front.renumberings.items c.in_ok-back.back.renumberings.items merged.renumberings.items
-        (in_halves (λ part. part.now) (length c.args.parts.now / 2) c.args.parts.now c.split_at.result.0.now c.split_at.result.1.now c.split_at.ensures.front c.split_at.ensures.back)
-        c.in_ok-front.ensures c.in_ok-back.ensures joined)
+    c.in_ok-front.front.renumberings.items c.in_ok-back.back.renumberings.items merged.renumberings.items
+    (in_halves (λ part. part.now) (length c.args.parts.now / 2) c.args.parts.now c.split_at.result.0.now c.split_at.result.1.now c.split_at.ensures.front c.split_at.ensures.back)
+    c.in_ok-front.ensures c.in_ok-back.ensures joined)
     c.join_merged.ensures

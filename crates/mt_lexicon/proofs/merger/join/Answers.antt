@@ -9,7 +9,7 @@ use Rattle.mt_lexicon.proofs.merger.join.Goals as goal
 pub loop-order-preserved-in-Less : goal.loop-order-preserved-in-Less
 loop-order-preserved-in-Less c =
     let next : ComesNext c.args.first.now c.loop-order.i c.args.second.now c.loop-order.j (Some Less) =
-        subst (λ (o : Ordering). ComesNext c.args.first.now c.loop-order.i c.args.second.now c.loop-order.j (Some o)) c.in-Less.is c.in-Some.ensures in
+    subst (λ (o : Ordering). ComesNext c.args.first.now c.loop-order.i c.args.second.now c.loop-order.j (Some o)) c.in-Less.is c.in-Some.ensures in
     rw (c.in_ok-push-in-Less.ensures.ok, c.in_ok-push-in-Less-2.ensures.items)
     (first_more c.args.first.now c.loop-order.i c.args.second.now c.loop-order.j c.loop-order.values c.loop-order.numbers.items c.loop-order.others.items c.len-number.result c.value.result.now c.loop-order.invariant c.len-number.ensures
     c.len.ensures.ascending c.value.ensures next.1)
@@ -17,7 +17,7 @@ loop-order-preserved-in-Less c =
 pub loop-order-preserved-in-Greater : goal.loop-order-preserved-in-Greater
 loop-order-preserved-in-Greater c =
     let next : ComesNext c.args.first.now c.loop-order.i c.args.second.now c.loop-order.j (Some Greater) =
-        subst (λ (o : Ordering). ComesNext c.args.first.now c.loop-order.i c.args.second.now c.loop-order.j (Some o)) c.in-Greater.is c.in-Some.ensures in
+    subst (λ (o : Ordering). ComesNext c.args.first.now c.loop-order.i c.args.second.now c.loop-order.j (Some o)) c.in-Greater.is c.in-Some.ensures in
     rw (c.in_ok-push-in-Greater.ensures.ok, c.in_ok-push-in-Greater-2.ensures.items)
     (second_more c.args.first.now c.loop-order.i c.args.second.now c.loop-order.j c.loop-order.values c.loop-order.numbers.items c.loop-order.others.items c.len-number.result c.value-in-Greater.result.now c.loop-order.invariant c.len-number.ensures
     c.len-2.ensures.ascending c.value-in-Greater.ensures next.1)
@@ -25,7 +25,7 @@ loop-order-preserved-in-Greater c =
 pub loop-order-preserved : goal.loop-order-preserved
 loop-order-preserved c =
     let next : ComesNext c.args.first.now c.loop-order.i c.args.second.now c.loop-order.j (Some Equal) =
-        subst (λ (o : Ordering). ComesNext c.args.first.now c.loop-order.i c.args.second.now c.loop-order.j (Some o)) c.in-Equal.is c.in-Some.ensures in
+    subst (λ (o : Ordering). ComesNext c.args.first.now c.loop-order.i c.args.second.now c.loop-order.j (Some o)) c.in-Equal.is c.in-Some.ensures in
     rw (c.in_ok-push-in-Equal.ensures.ok, c.in_ok-push-in-Equal-2.ensures.items, c.in_ok-push-in-Equal-3.ensures.items)
     (both_more c.args.first.now c.loop-order.i c.args.second.now c.loop-order.j c.loop-order.values c.loop-order.numbers.items c.loop-order.others.items c.len-number.result c.value-in-Equal.result.now c.loop-order.invariant c.len-number.ensures
     c.len.ensures.ascending c.len-2.ensures.ascending c.value-in-Equal.ensures next.1 next.2)

@@ -36,17 +36,17 @@ pub overflow_cast-len : goal.overflow_cast-len
 overflow_cast-len c =
     let items = c.deref-entry-items.result.now in
     let h : IsSortedNumbering c.args.self (map pair items) =
-        numbering c.as_slice.result.now c.self.inside.seen.keys c.args.self c.in_ok-entries.entries.items items c.as_slice.ensures.keys c.self.view_is c.deref-entry-items.ensures.value c.in_ok-entries.ensures in
+    numbering c.as_slice.result.now c.self.inside.seen.keys c.args.self c.in_ok-entries.entries.items items c.as_slice.ensures.keys c.self.view_is c.deref-entry-items.ensures.value c.in_ok-entries.ensures in
     let low : length items < 2 ^ 32 = few c.as_slice.result.now c.self.inside.seen.keys c.args.self items c.self.view_is c.self.invariant h in
     let count : length c.loop-entry.values ≡ c.loop-entry.entry-index =
-        length_texts (map pair items) c.loop-entry.values c.loop-entry.numbers.items c.loop-entry.entry-index c.loop-entry.invariant (omega (arith, length-map items pair)) in
+    length_texts (map pair items) c.loop-entry.values c.loop-entry.numbers.items c.loop-entry.entry-index c.loop-entry.invariant (omega (arith, length-map items pair)) in
     omega (arith, c.len-in-loop-entry.ensures, count)
 
 pub index_mut-requires : goal.index_mut-requires
 index_mut-requires c =
     let items = c.deref-entry-items.result.now in
     let h : IsSortedNumbering c.args.self (map pair items) =
-        numbering c.as_slice.result.now c.self.inside.seen.keys c.args.self c.in_ok-entries.entries.items items c.as_slice.ensures.keys c.self.view_is c.deref-entry-items.ensures.value c.in_ok-entries.ensures in
+    numbering c.as_slice.result.now c.self.inside.seen.keys c.args.self c.in_ok-entries.entries.items items c.as_slice.ensures.keys c.self.view_is c.deref-entry-items.ensures.value c.in_ok-entries.ensures in
     let e : (get_or items c.loop-entry.entry-index no_entry).number ≡ (get_or (map pair items) c.loop-entry.entry-index none).1 = ap (λ (p : List ℕ × ℕ). p.1) (pair_of pair items c.loop-entry.entry-index no_entry c.loop-entry-test.true) in
     rw e (omega (arith, number_within c.args.self (map pair items) h c.loop-entry.entry-index (omega (arith, length-map items pair)), c.loop-entry.invariant.count))
 
@@ -54,7 +54,7 @@ pub loop-entry-preserved : goal.loop-entry-preserved
 loop-entry-preserved c =
     let items = c.deref-entry-items.result.now in
     let h : IsSortedNumbering c.args.self (map pair items) =
-        numbering c.as_slice.result.now c.self.inside.seen.keys c.args.self c.in_ok-entries.entries.items items c.as_slice.ensures.keys c.self.view_is c.deref-entry-items.ensures.value c.in_ok-entries.ensures in
+    numbering c.as_slice.result.now c.self.inside.seen.keys c.args.self c.in_ok-entries.entries.items items c.as_slice.ensures.keys c.self.view_is c.deref-entry-items.ensures.value c.in_ok-entries.ensures in
     places_more c.args.self (map pair items) c.loop-entry.values c.push.new.self c.loop-entry.numbers.items c.loop-entry.entry-index c.len-in-loop-entry.result _ _ h c.loop-entry.invariant (omega (arith, length-map items pair))
     c.len-in-loop-entry.ensures (pair_of pair items c.loop-entry.entry-index _ c.loop-entry-test.true) c.in_ok-push.ensures.ok
 
@@ -62,11 +62,11 @@ pub from_strings-requires : goal.from_strings-requires
 from_strings-requires c =
     let items = c.deref-entry-items.result.now in
     let h : IsSortedNumbering c.args.self (map pair items) =
-        numbering c.as_slice.result.now c.self.inside.seen.keys c.args.self c.in_ok-entries.entries.items items c.as_slice.ensures.keys c.self.view_is c.deref-entry-items.ensures.value c.in_ok-entries.ensures in
+    numbering c.as_slice.result.now c.self.inside.seen.keys c.args.self c.in_ok-entries.entries.items items c.as_slice.ensures.keys c.self.view_is c.deref-entry-items.ensures.value c.in_ok-entries.ensures in
     let low : length items < 2 ^ 32 = few c.as_slice.result.now c.self.inside.seen.keys c.args.self items c.self.view_is c.self.invariant h in
     let end : c.loop-entry.entry-index ≡ length (map pair items) = omega (arith, length-map items pair) in
     let count : length c.loop-entry.values ≡ c.loop-entry.entry-index =
-        length_texts (map pair items) c.loop-entry.values c.loop-entry.numbers.items c.loop-entry.entry-index c.loop-entry.invariant (omega arith) in
+    length_texts (map pair items) c.loop-entry.values c.loop-entry.numbers.items c.loop-entry.entry-index c.loop-entry.invariant (omega arith) in
     let all = all_placed c.args.self (map pair items) c.loop-entry.values c.loop-entry.values c.loop-entry.numbers.items c.loop-entry.entry-index h c.loop-entry.invariant end refl in
     record { few = omega (arith, count, length-map items pair); ascending = all.0.ascending }
 
@@ -74,7 +74,9 @@ pub returns : goal.returns
 returns c =
     let items = c.deref-entry-items.result.now in
     let h : IsSortedNumbering c.args.self (map pair items) =
-        numbering c.as_slice.result.now c.self.inside.seen.keys c.args.self c.in_ok-entries.entries.items items c.as_slice.ensures.keys c.self.view_is c.deref-entry-items.ensures.value c.in_ok-entries.ensures in
+    numbering c.as_slice.result.now c.self.inside.seen.keys c.args.self c.in_ok-entries.entries.items items c.as_slice.ensures.keys c.self.view_is c.deref-entry-items.ensures.value c.in_ok-entries.ensures in
     let end : c.loop-entry.entry-index ≡ length (map pair items) = omega (arith, length-map items pair) in
     let all = all_placed c.args.self (map pair items) c.loop-entry.values c.from_strings.result c.loop-entry.numbers.items c.loop-entry.entry-index h c.loop-entry.invariant end c.from_strings.ensures in
-    record { lexicon = all.0; numbers = rw c.from_vec.ensures all.1 }
+    let count : length c.loop-entry.values ≡ c.loop-entry.entry-index =
+        length_texts (map pair items) c.loop-entry.values c.loop-entry.numbers.items c.loop-entry.entry-index c.loop-entry.invariant (omega arith) in
+    record { lexicon = all.0; numbers = rw c.from_vec.ensures all.1; count = omega (arith, h.count, count, ap length c.from_strings.ensures) }
