@@ -3,7 +3,7 @@
 ghost use Rattle.std.specs.Prelude.{◌≡◌, ◌<◌};
 
 use super::{Lexicon, LexiconBuilder, LexiconMerger};
-use mt_base::{NoMemory, Steps};
+use mt_base::{NoMemory, Steps, Value};
 use std::alloc::Global;
 use std::marker::Brand;
 use std::sync::ledger::{Blank, Ledger};
@@ -17,17 +17,17 @@ fn lexicon_of(alloc: Global, first: &str, second: &str) -> Result<Lexicon, NoMem
     Ok(builder.finish()?.0)
 }
 
-fn found(lexicon: &Lexicon, value: &str) -> Option<u32> {
+fn found(lexicon: &Lexicon, value: &Value) -> Option<u32> {
     found_from::<Brand>(lexicon, value, Blank::new(1))
 }
 
-fn found_from<L: Ledger>(lexicon: &Lexicon, value: &str, blank: Blank) -> Option<u32>
+fn found_from<L: Ledger>(lexicon: &Lexicon, value: &Value, blank: Blank) -> Option<u32>
     requires name { blank.name ≡ L.name }
     requires parts { blank.parts ≡ L.parts }
     requires some { 0 < L.parts }
 {
     let mut steps = Steps::<L>::new(blank);
-    lexicon.find(value, &mut steps)
+    lexicon.find(value.as_str(), &mut steps)
 }
 
 #[test]
@@ -48,9 +48,9 @@ fn numbers_by_first_sight_and_by_order(rt: HostRuntime) -> Result<(), Fail> {
 #[test]
 fn finds_by_bytes(rt: HostRuntime) -> Result<(), Fail> {
     let lexicon = lexicon_of(rt.alloc(), "élan", "zoo")?;
-    assert_eq!(rt; found(&lexicon, "zoo"), Some(0));
-    assert_eq!(rt; found(&lexicon, "élan"), Some(1));
-    assert_eq!(rt; found(&lexicon, "é"), None);
+    assert_eq!(rt; found(&lexicon, &Value::new(rt.alloc(), "zoo")?), Some(0));
+    assert_eq!(rt; found(&lexicon, &Value::new(rt.alloc(), "élan")?), Some(1));
+    assert_eq!(rt; found(&lexicon, &Value::new(rt.alloc(), "é")?), None);
     Ok(())
 }
 

@@ -1,4 +1,4 @@
-use Rattle.std.proofs.Common.{◌≡◌, ◌++◌, ◌∙◌, List, ℕ, map, length, ap, ap₂}
+use Rattle.std.proofs.Common.{◌≡◌, ◌++◌, ◌∙◌, map, length, ap, ap₂}
 use Rattle.std.proofs.lemmas.List.{length-map, with_items_is}
 use Rattle.mt_lexicon.specs.Joins.{renumbered}
 use Rattle.mt_lexicon.proofs.merger.join_merged.Goals as goal

@@ -1,4 +1,4 @@
-use Rattle.std.proofs.Common.{◌≡◌, ◌+◌, ◌≤◌, length, map, arith}
+use Rattle.std.proofs.Common.{map, arith}
 use Rattle.mt_lexicon.proofs.Merged.{two_merged, two_pushed, two_shown}
 use Rattle.mt_lexicon.proofs.merger.merge_few.Goals as goal
 

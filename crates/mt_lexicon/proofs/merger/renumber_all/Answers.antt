@@ -1,4 +1,4 @@
-use Rattle.std.proofs.Common.{arith, ◌<◌, length}
+use Rattle.std.proofs.Common.{arith}
 use Rattle.mt_lexicon.specs.Joins.{renumbered}
 use Rattle.mt_lexicon.proofs.Renumbered.{here, one_changed_more}
 use Rattle.mt_lexicon.proofs.merger.renumber_all.Goals as goal

@@ -1,4 +1,4 @@
-use Rattle.std.proofs.Common.{◌∙◌, ap, sym, Some, arith, rules, ◌≡◌, get_or, ◌∷◌, ◌<◌, subst, ℕ}
+use Rattle.std.proofs.Common.{sym, ◌≡◌, get_or, ◌∷◌, ◌<◌, subst, ℕ}
 use Rattle.std.specs.Str.{IsCharBoundary}
 use Rattle.mt_lexicon.proofs.Blocks.{end_at, start_at, piece_at}
 use Rattle.mt_lexicon.proofs.strings.piece.Goals as goal

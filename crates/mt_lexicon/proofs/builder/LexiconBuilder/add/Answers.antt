@@ -1,4 +1,4 @@
-use Rattle.std.proofs.Common.{◌≡◌, sym, ◌∙◌, Global}
+use Rattle.std.proofs.Common.{sym, Global}
 use Rattle.std.specs.Prelude.{string_bytes}
 use Rattle.mt_lexicon.proofs.FirstSight.{seen_again, seen_at, seen_first, stored_at}
 use Rattle.mt_lexicon.proofs.builder.LexiconBuilder.add.Goals as goal

@@ -1,7 +1,6 @@
-use Rattle.std.proofs.Common.{◌≡◌, ◌∙◌, ◌<◌, ◌≤◌, ◌+◌, ◌^◌, ℕ, List, Global, String, [], map, length, get_or, refl, ap, sym, arith}
+use Rattle.std.proofs.Common.{◌≡◌, ◌∙◌, ◌<◌, ◌^◌, ℕ, List, Global, String, [], map, length, get_or, refl, ap, sym, arith}
 use Rattle.std.specs.Prelude.{string_bytes}
 use Rattle.std.proofs.lemmas.List.{length-map}
-use Rattle.mt_store_spec.specs.Lexicons.{IsLexiconOf, Renumbers}
 use Rattle.mt_lexicon.specs.declared.builder.Entry.{Entry}
 use Rattle.mt_lexicon.specs.Entries.{IsSortedNumbering}
 use Rattle.mt_lexicon.proofs.Sorted.{none, nothing_placed, length_texts, places_more, moved_to, pair_of, all_placed, number_within}
@@ -78,5 +77,5 @@ returns c =
     let end : c.loop-entry.entry-index ≡ length (map pair items) = omega (arith, length-map items pair) in
     let all = all_placed c.args.self (map pair items) c.loop-entry.values c.from_strings.result c.loop-entry.numbers.items c.loop-entry.entry-index h c.loop-entry.invariant end c.from_strings.ensures in
     let count : length c.loop-entry.values ≡ c.loop-entry.entry-index =
-        length_texts (map pair items) c.loop-entry.values c.loop-entry.numbers.items c.loop-entry.entry-index c.loop-entry.invariant (omega arith) in
+    length_texts (map pair items) c.loop-entry.values c.loop-entry.numbers.items c.loop-entry.entry-index c.loop-entry.invariant (omega arith) in
     record { lexicon = all.0; numbers = rw c.from_vec.ensures all.1; count = omega (arith, h.count, count, ap length c.from_strings.ensures) }

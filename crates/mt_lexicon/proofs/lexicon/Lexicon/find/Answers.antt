@@ -1,5 +1,4 @@
-use Rattle.std.proofs.Common.{◌≡◌, ◌+◌, ◌-◌, ◌/◌, ◌≤◌, ◌<◌, ◌∙◌, List, ℕ, length, arith, sym, ap, subst, Some}
-use Rattle.std.specs.List.{Contains}
+use Rattle.std.proofs.Common.{◌≡◌, ◌+◌, ◌-◌, ◌/◌, ◌∙◌, length, arith, sym, ap, Some}
 use Rattle.mt_lexicon.proofs.Halves.{halved, last}
 use Rattle.mt_lexicon.proofs.Order.{all_below, all_above, absent, same_from_equal}
 use Rattle.mt_lexicon.proofs.lexicon.Lexicon.find.Goals as goal

@@ -1,4 +1,4 @@
-use Rattle.std.proofs.Common.{◌∙◌, arith, ◌<◌, length, slice_index}
+use Rattle.std.proofs.Common.{◌∙◌, arith, slice_index}
 use Rattle.mt_lexicon.proofs.Renumbered.{small, one_changed_more}
 use Rattle.mt_lexicon.proofs.renumbering.Renumbering.then.Goals as goal
 

@@ -1,4 +1,4 @@
-use Rattle.std.proofs.Common.{arith, ap, length, sym}
+use Rattle.std.proofs.Common.{arith, ap, length}
 use Rattle.std.specs.Prelude.{string_bytes}
 use Rattle.mt_lexicon.proofs.Blocks.{length-pieces}
 use Rattle.mt_lexicon.proofs.strings.Strings.get.Goals as goal

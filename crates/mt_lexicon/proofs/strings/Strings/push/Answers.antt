@@ -1,4 +1,3 @@
-use Rattle.std.proofs.Common.{◌≡◌, ◌+◌, ◌++◌, [], ◌∷◌, length, sym, ◌∙◌, ap}
 use Rattle.std.specs.Prelude.{string_bytes}
 use Rattle.mt_lexicon.proofs.Blocks.{pieces-push, AreEnds-push}
 use Rattle.mt_lexicon.proofs.strings.Strings.push.Goals as goal
