@@ -1,4 +1,2 @@
-//! What posting lists are and how they are written as bytes: the definitions that the contracts of the crates above cite.
-//!
-//! This crate has no code.
+//! What the tables of a segment hold and how they are written: definitions alone, which the contracts of other crates cite.
 #![tactic(auto)]

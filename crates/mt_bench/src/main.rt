@@ -1,0 +1,69 @@
+//! Measures the crates at the engine's heart, each beside a plain loop over vectors or a map of the standard library.
+//!
+//! Without the word `all` it measures nothing, so that what it prints is the same at every run.
+#![tactic(auto)]
+
+mod work;
+
+use mt_base::NoMemory;
+use std::env;
+use std::io;
+use std::rt::Clock;
+use std::time::Instant;
+use work::Input;
+
+/// A workload is run so many times, and the best time counts.
+const RUNS: u32 = 5;
+
+fn main(rt: HostRuntime) -> io::Result<()> {
+    let is_asked = env::args(&rt)?.skip(1).any(|word| word.as_str() == "all");
+    if !is_asked {
+        return println!(rt; "mt_bench all: measures the crates");
+    }
+    match Input::new(rt.alloc()) {
+        Ok(input) => measure(&rt, &input),
+        Err(NoMemory) => println!(rt; "memory was wanted"),
+    }
+}
+
+/// Measures each workload.
+fn measure(rt: &HostRuntime, input: &Input) -> io::Result<()> {
+    println!(rt; "workload, plain loop: nanoseconds an item, ratio")?;
+    let alloc = rt.alloc();
+    compare(rt, "put_delta / push", || work::put(alloc, input), || work::push(alloc, input))?;
+    compare(rt, "encode / copy", || work::encode(alloc, input), || work::copy(alloc, input))?;
+    compare(rt, "decode / sum", || work::decode(alloc, input), || work::sum(input))?;
+    compare(rt, "union / copy", || work::union(alloc, input), || work::copy(alloc, input))?;
+    compare(rt, "lexicon add / HashMap", || work::add(alloc, input), || work::count(alloc, input))?;
+    compare(rt, "log_dice / product", || work::score(input), || work::product(input))
+}
+
+/// Measures a workload and a plain loop beside it.
+fn compare<F: FnMut() -> Result<u64, NoMemory>, G: FnMut() -> Result<u64, NoMemory>>(
+    rt: &HostRuntime,
+    name: &str,
+    workload: F,
+    plain: G,
+) -> io::Result<()>
+    requires workload { F.IsAlwaysCallable workload }
+    requires plain { G.IsAlwaysCallable plain }
+{
+    let workload = best(rt, workload)?;
+    let plain = best(rt, plain)?;
+    let ratio = workload as f64 / plain as f64;
+    println!(rt; "{name}: {workload} ns, {plain} ns for 1,000,000 items, ratio {ratio:.2}")
+}
+
+/// The best time of some runs, in nanoseconds.
+fn best<F: FnMut() -> Result<u64, NoMemory>>(rt: &impl Clock, mut workload: F) -> io::Result<u64>
+    requires { F.IsAlwaysCallable workload }
+{
+    let mut best = u64::MAX;
+    for _ in 0..RUNS {
+        let start = Instant::now(rt)?;
+        let _ = workload();
+        let nanos = start.elapsed(rt)?.as_nanos();
+        best = best.min(u64::try_from(nanos).unwrap_or(u64::MAX));
+    }
+    Ok(best.max(1))
+}

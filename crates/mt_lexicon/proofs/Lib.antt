@@ -1,0 +1,9 @@
+pub mod Blocks
+pub mod FirstSight
+pub mod Halves
+pub mod Joined
+pub mod Merged
+pub mod Order
+pub mod Places
+pub mod Renumbered
+pub mod Sorted

@@ -1,0 +1,25 @@
+use Rattle.std.proofs.Common.{◌/◌, length, map}
+use Rattle.std.proofs.lemmas.Result.{IfOk-weaker}
+use Rattle.mt_lexicon.specs.declared.merger.Merged.{Merged}
+use Rattle.mt_lexicon.specs.Joins.{JoinsMerged, Merges}
+use Rattle.mt_lexicon.proofs.Merged.{all_within, halves_merged, in_halves}
+use Rattle.mt_lexicon.proofs.merger.+merge.Goals as goal
+
+pub join_merged-requires-clause-first : goal.join_merged-requires-clause-first
+join_merged-requires-clause-first t c = all_within (map (λ part. part.now) c.split_at.result.0.now) c.in_ok-front.front.lexicon c.in_ok-front.front.renumberings.items c.in_ok-front.ensures.each
+
+pub join_merged-requires-clause-second : goal.join_merged-requires-clause-second
+join_merged-requires-clause-second t c = all_within (map (λ part. part.now) c.split_at.result.1.now) c.in_ok-back.back.lexicon c.in_ok-back.back.renumberings.items c.in_ok-back.ensures.each
+
+pub returns : goal.returns
+returns t c =
+    let front = map (λ part. part.now) c.split_at.result.0.now in
+    let back = map (λ part. part.now) c.split_at.result.1.now in
+    IfOk-weaker c.join_merged.result
+    (λ (merged : Merged). JoinsMerged c.in_ok-front.front.lexicon c.in_ok-back.back.lexicon merged.lexicon c.in_ok-front.front.renumberings.items c.in_ok-back.back.renumberings.items merged.renumberings.items)
+    (λ (merged : Merged). Merges (map (λ part. part.now) c.args.parts.now) merged.lexicon merged.renumberings.items)
+    (λ merged joined. halves_merged (map (λ part. part.now) c.args.parts.now) front back c.in_ok-front.front.lexicon c.in_ok-back.back.lexicon merged.lexicon
+    c.in_ok-front.front.renumberings.items c.in_ok-back.back.renumberings.items merged.renumberings.items
+    (in_halves (λ part. part.now) (length c.args.parts.now / 2) c.args.parts.now c.split_at.result.0.now c.split_at.result.1.now c.split_at.ensures.front c.split_at.ensures.back)
+    c.in_ok-front.ensures c.in_ok-back.ensures joined)
+    c.join_merged.ensures

@@ -1,0 +1,34 @@
+-- What a lexicon is: the distinct values of an attribute in ascending order of their bytes, each numbered by its place, from 0.
+use Rattle.std.specs.Prelude.{ℕ, ◌≡◌, ◌<◌, List, [], ◌∷◌, ◌++◌, length, slice_get, slice_index, if◌then◌else◌}
+use Rattle.std.specs.List.{All, AllPairs, Contains, list_any, flat_map}
+use Rattle.std.specs.Str.{bytes_eq}
+use Rattle.std.specs.Ordering.{nat_cmp}
+use Rattle.std.specs.Cmp.Lexicographic.{slice_cmp}
+use Rattle.std.specs.declared.cmp.Ordering.TheVariants.{Less}
+
+-- a value comes before another in the order of their bytes
+abbrev pub IsBelow : List ℕ → List ℕ → Type 0
+IsBelow value other = slice_cmp nat_cmp value other ≡ Less
+
+-- each value is below every later one, so none is there twice
+abbrev pub IsAscending : List (List ℕ) → Type 0
+IsAscending values = AllPairs IsBelow values
+
+-- the lexicon of some values, which may repeat, has each of them once and no other, in ascending order
+pub record IsLexiconOf (values lexicon : List (List ℕ)) : Type 0 where
+  pub ascending : IsAscending lexicon
+  pub all : All (Contains lexicon) values
+  pub only : All (Contains values) lexicon
+
+-- a renumbering from old to new values has a number for each old number, and it stands for the same value
+pub record Renumbers (numbers : List ℕ) (old new : List (List ℕ)) : Type 0 where
+  pub count : length numbers ≡ length old
+  pub same : (k : ℕ) → k < length old → slice_get new (slice_index numbers k) ≡ slice_get old k
+
+-- the values in the order in which they were first seen, after one more was seen
+abbrev pub seen_with : List (List ℕ) → List ℕ → List (List ℕ)
+seen_with values value = if list_any (bytes_eq value) values then values else values ++ value ∷ []
+
+-- the values of the parts, one part after the other
+abbrev pub all_values : List (List (List ℕ)) → List (List ℕ)
+all_values parts = flat_map (λ part. part) parts
