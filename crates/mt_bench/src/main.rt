@@ -6,10 +6,9 @@
 mod work;
 
 use mt_base::NoMemory;
-use std::env;
-use std::io;
 use std::rt::Clock;
 use std::time::Instant;
+use std::{env, io};
 use work::Input;
 
 /// A workload is run so many times, and the best time counts.
@@ -28,14 +27,44 @@ fn main(rt: HostRuntime) -> io::Result<()> {
 
 /// Measures each workload.
 fn measure(rt: &HostRuntime, input: &Input) -> io::Result<()> {
-    println!(rt; "workload, plain loop: nanoseconds an item, ratio")?;
+    println!(rt; "workload / plain loop: the best times in nanoseconds, and their ratio")?;
     let alloc = rt.alloc();
-    compare(rt, "put_delta / push", || work::put(alloc, input), || work::push(alloc, input))?;
-    compare(rt, "encode / copy", || work::encode(alloc, input), || work::copy(alloc, input))?;
-    compare(rt, "decode / sum", || work::decode(alloc, input), || work::sum(input))?;
-    compare(rt, "union / copy", || work::union(alloc, input), || work::copy(alloc, input))?;
-    compare(rt, "lexicon add / HashMap", || work::add(alloc, input), || work::count(alloc, input))?;
-    compare(rt, "log_dice / product", || work::score(input), || work::product(input))
+    compare(
+        rt,
+        "put_delta / push",
+        || work::put(alloc, input),
+        || work::push(alloc, input),
+    )?;
+    compare(
+        rt,
+        "encode / copy",
+        || work::encode(alloc, input),
+        || work::copy(alloc, input),
+    )?;
+    compare(
+        rt,
+        "decode / sum",
+        || work::decode(alloc, input),
+        || work::sum(input),
+    )?;
+    compare(
+        rt,
+        "union / copy",
+        || work::union(alloc, input),
+        || work::copy(alloc, input),
+    )?;
+    compare(
+        rt,
+        "lexicon add / HashMap",
+        || work::add(alloc, input),
+        || work::count(alloc, input),
+    )?;
+    compare(
+        rt,
+        "log_dice / product",
+        || work::score(input),
+        || work::product(input),
+    )
 }
 
 /// Measures a workload and a plain loop beside it.
@@ -50,8 +79,8 @@ fn compare<F: FnMut() -> Result<u64, NoMemory>, G: FnMut() -> Result<u64, NoMemo
 {
     let workload = best(rt, workload)?;
     let plain = best(rt, plain)?;
-    let ratio = workload as f64 / plain as f64;
-    println!(rt; "{name}: {workload} ns, {plain} ns for 1,000,000 items, ratio {ratio:.2}")
+    let percent = workload.saturating_mul(100) / plain.max(1);
+    println!(rt; "{name}: {workload} and {plain} for 1,000,000 items, {percent} %")
 }
 
 /// The best time of some runs, in nanoseconds.
@@ -65,5 +94,5 @@ fn best<F: FnMut() -> Result<u64, NoMemory>>(rt: &impl Clock, mut workload: F) -
         let nanos = start.elapsed(rt)?.as_nanos();
         best = best.min(u64::try_from(nanos).unwrap_or(u64::MAX));
     }
-    Ok(best.max(1))
+    Ok(best)
 }

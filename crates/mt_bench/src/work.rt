@@ -31,7 +31,9 @@ impl Input {
         let mut gaps = Vec::with_capacity(alloc, ITEMS as usize)?;
         let mut picks = Vec::with_capacity(alloc, ITEMS as usize)?;
         for _ in 0..ITEMS {
-            x = x.wrapping_mul(6_364_136_223_846_793_005).wrapping_add(1_442_695_040_888_963_407);
+            x = x
+                .wrapping_mul(6_364_136_223_846_793_005)
+                .wrapping_add(1_442_695_040_888_963_407);
             gaps.push(((x >> 33) % 1000) as u32 + 1)?;
             picks.push(((x >> 40) % u64::from(WORDS)) as u32)?;
         }
@@ -42,7 +44,14 @@ impl Input {
         let code = code_of(alloc, &gaps)?;
         let positions = list_of(alloc, &code)?;
         let others = list_of(alloc, &code_of(alloc, &picks)?)?;
-        Ok(Input { gaps, code, positions, others, words, picks })
+        Ok(Input {
+            gaps,
+            code,
+            positions,
+            others,
+            words,
+            picks,
+        })
     }
 }
 
@@ -111,10 +120,15 @@ pub fn sum(input: &Input) -> Result<u64, NoMemory> {
 pub fn add(alloc: Global, input: &Input) -> Result<u64, NoMemory> {
     let mut builder = LexiconBuilder::new(alloc)?;
     let mut total = 0u64;
+    let mut added = 0u32;
     for pick in &input.picks {
+        if added == ITEMS {
+            break;
+        }
         if let Some(word) = input.words.get(*pick as usize) {
             total = total.wrapping_add(u64::from(builder.add(word)?));
         }
+        added += 1;
     }
     let (lexicon, _) = builder.finish()?;
     Ok(total.wrapping_add(u64::from(lexicon.len())))
