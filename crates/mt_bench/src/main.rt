@@ -79,20 +79,31 @@ fn compare<F: FnMut() -> Result<u64, NoMemory>, G: FnMut() -> Result<u64, NoMemo
 {
     let workload = best(rt, workload)?;
     let plain = best(rt, plain)?;
-    let percent = workload.saturating_mul(100) / plain.max(1);
-    println!(rt; "{name}: {workload} and {plain} for 1,000,000 items, {percent} %")
+    let percent = workload.nanos.saturating_mul(100) / plain.nanos.max(1);
+    let answers = workload.answer.wrapping_add(plain.answer);
+    println!(rt; "{name}: {} and {}, {percent} % (answers {answers})", workload.nanos, plain.nanos)
 }
 
-/// The best time of some runs, in nanoseconds.
-fn best<F: FnMut() -> Result<u64, NoMemory>>(rt: &impl Clock, mut workload: F) -> io::Result<u64>
+/// A measured workload.
+#[derive(Drop)]
+struct Measured {
+    /// The best time of some runs, in nanoseconds.
+    nanos: u64,
+    /// The sum of what the runs answered, so that none of them can be left out.
+    answer: u64,
+}
+
+/// The best time of some runs.
+fn best<F: FnMut() -> Result<u64, NoMemory>>(rt: &impl Clock, mut workload: F) -> io::Result<Measured>
     requires { F.IsAlwaysCallable workload }
 {
     let mut best = u64::MAX;
+    let mut answer = 0u64;
     for _ in 0..RUNS {
         let start = Instant::now(rt)?;
-        let _ = workload();
+        answer = answer.wrapping_add(workload().unwrap_or(0));
         let nanos = start.elapsed(rt)?.as_nanos();
         best = best.min(u64::try_from(nanos).unwrap_or(u64::MAX));
     }
-    Ok(best)
+    Ok(Measured { nanos: best, answer })
 }
