@@ -15,6 +15,3 @@ mod words;
 pub use command::{Ask, BatchLine, Command, Next};
 pub use laws::{one_header, one_reading};
 pub use reader::ScriptReader;
-
-#[cfg(test)]
-mod tests;
