@@ -81,7 +81,10 @@ fn compare<F: FnMut() -> Result<u64, NoMemory>, G: FnMut() -> Result<u64, NoMemo
     let plain = best(rt, plain)?;
     let percent = workload.nanos.saturating_mul(100) / plain.nanos.max(1);
     let answers = workload.answer.wrapping_add(plain.answer);
-    println!(rt; "{name}: {} and {}, {percent} % (answers {answers})", workload.nanos, plain.nanos)
+    println!(rt;
+        "{name}: {} and {}, {percent} % (answers {answers})",
+        workload.nanos, plain.nanos
+    )
 }
 
 /// A measured workload.
@@ -94,7 +97,10 @@ struct Measured {
 }
 
 /// The best time of some runs.
-fn best<F: FnMut() -> Result<u64, NoMemory>>(rt: &impl Clock, mut workload: F) -> io::Result<Measured>
+fn best<F: FnMut() -> Result<u64, NoMemory>>(
+    rt: &impl Clock,
+    mut workload: F,
+) -> io::Result<Measured>
     requires { F.IsAlwaysCallable workload }
 {
     let mut best = u64::MAX;
@@ -105,5 +111,8 @@ fn best<F: FnMut() -> Result<u64, NoMemory>>(rt: &impl Clock, mut workload: F) -
         let nanos = start.elapsed(rt)?.as_nanos();
         best = best.min(u64::try_from(nanos).unwrap_or(u64::MAX));
     }
-    Ok(Measured { nanos: best, answer })
+    Ok(Measured {
+        nanos: best,
+        answer,
+    })
 }
