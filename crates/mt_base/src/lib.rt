@@ -1,20 +1,24 @@
-//! Values, lists, texts, lines and counters of steps: the small types that every crate of the engine uses.
+//! Values, lists, registries, texts, spans, lines and counters of steps: the small types that every crate of the engine uses.
 //!
-//! Contracts see a `Value` as its bytes, a `List` as the list of its items, a `Text` as the record of `mt_text_spec`, `Lines` as the
+//! Contracts see a `Value` as its bytes, a `List` as the list of its items, a `Registry`, a `Text`, a `Span` and a `Row` as the records of `mt_text_spec`, `Lines` as the
 //! list of lines to come, and `Steps` as a number.
 #![tactic(auto)]
 
 mod lines;
 mod list;
+mod registry;
+mod span;
 mod steps;
 mod text;
 mod value;
 
 pub use lines::Lines;
 pub use list::List;
+pub use registry::{Attr, Kind, Registry};
+pub use span::{Row, Span};
 use std::alloc::{AllocError, AllocFailed};
 pub use steps::Steps;
-pub use text::{Text, Token};
+pub use text::{StructSpan, Text, Token};
 pub use value::Value;
 
 /// Want of memory: the one answer that any call which takes memory may give at any time.
@@ -40,6 +44,8 @@ pub fn are_shared<T: Send + Sync>() {
     shared::<Value>();
     shared::<List<T>>();
     shared::<List<Value>>();
+    shared::<Registry>();
     shared::<Text>();
+    shared::<List<Row>>();
     shared::<NoMemory>();
 }

@@ -1,4 +1,4 @@
-//! Texts and their tokens, seen as the records `Text` and `Token` of `mt_text_spec`.
+//! Texts, their tokens and their instances of structures, seen as the records of `mt_text_spec`.
 
 ghost use Rattle.std.specs.Prelude.{◌≡◌, ◌<◌, length, nat_eq};
 ghost use Rattle.mt_text_spec.specs.Texts as spec;
@@ -6,7 +6,7 @@ ghost use Rattle.mt_text_spec.specs.Texts as spec;
 use super::{List, Value};
 use std::marker::Model;
 
-/// A token: one value for each base attribute, in the order of the attributes.
+/// A token: one value for each base attribute, in order of declaration.
 #[derive(Debug, Drop)]
 pub struct Token {
     values: List<Value>,
@@ -33,34 +33,97 @@ impl Token {
         &self.values
     }
 
-    /// The value at an attribute, by the attribute's number, from 0.
-    pub fn value(&self, attribute: usize) -> &Value
-        requires { attribute < length self.now.values }
-        ensures { result.now ≡ spec.value_of self.now attribute }
+    /// The value of a base attribute, by its place among the base attributes, from 0.
+    pub fn value(&self, column: usize) -> &Value
+        requires { column < length self.now.values }
+        ensures { result.now ≡ spec.value_of self.now column }
     {
-        self.values.get(attribute)
+        self.values.get(column)
     }
 }
 
-/// A text: a name, and its tokens in order.
+/// An instance of a structure in a text: the number of its kind, where it begins and where it ends, as numbers of tokens before either, and one value for
+/// each attribute of its kind.
+#[derive(Debug, Drop)]
+pub struct StructSpan {
+    kind: u16,
+    begin: u32,
+    end: u32,
+    values: List<Value>,
+}
+
+impl Model for StructSpan {
+    ghost Value = { spec.StructSpan };
+
+    ghost view = { λ s. record { kind = s.kind; begin = s.begin; end = s.end; values = s.values } };
+}
+
+impl StructSpan {
+    /// The instance of this kind from one place to the other with these values. It takes no memory.
+    pub fn new(kind: u16, begin: u32, end: u32, values: List<Value>) -> Self
+        ensures { result ≡ record { kind = kind; begin = begin; end = end; values = values } }
+    {
+        StructSpan {
+            kind,
+            begin,
+            end,
+            values,
+        }
+    }
+
+    /// The number of its kind.
+    pub fn kind(&self) -> u16
+        ensures { result ≡ self.now.kind }
+    {
+        self.kind
+    }
+
+    /// How many tokens of its text stand before its begin.
+    pub fn begin(&self) -> u32
+        ensures { result ≡ self.now.begin }
+    {
+        self.begin
+    }
+
+    /// How many tokens of its text stand before its end.
+    pub fn end(&self) -> u32
+        ensures { result ≡ self.now.end }
+    {
+        self.end
+    }
+
+    /// The values of the attributes of its kind.
+    pub fn values(&self) -> &List<Value>
+        ensures { result.now ≡ self.now.values }
+    {
+        &self.values
+    }
+}
+
+/// A text: a name, its tokens in order, and its instances of structures in order of kind and place.
 #[derive(Debug, Drop)]
 pub struct Text {
     name: Value,
     tokens: List<Token>,
+    structs: List<StructSpan>,
 }
 
 impl Model for Text {
     ghost Value = { spec.Text };
 
-    ghost view = { λ t. record { name = t.name; tokens = t.tokens } };
+    ghost view = { λ t. record { name = t.name; tokens = t.tokens; structs = t.structs } };
 }
 
 impl Text {
-    /// The text of this name with these tokens. It takes no memory.
-    pub fn new(name: Value, tokens: List<Token>) -> Self
-        ensures { result ≡ record { name = name; tokens = tokens } }
+    /// The text of this name with these tokens and instances. It takes no memory.
+    pub fn new(name: Value, tokens: List<Token>, structs: List<StructSpan>) -> Self
+        ensures { result ≡ record { name = name; tokens = tokens; structs = structs } }
     {
-        Text { name, tokens }
+        Text {
+            name,
+            tokens,
+            structs,
+        }
     }
 
     /// The name.
@@ -75,6 +138,13 @@ impl Text {
         ensures { result.now ≡ self.now.tokens }
     {
         &self.tokens
+    }
+
+    /// The instances of structures.
+    pub fn structs(&self) -> &List<StructSpan>
+        ensures { result.now ≡ self.now.structs }
+    {
+        &self.structs
     }
 
     /// How many tokens there are.

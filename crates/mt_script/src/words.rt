@@ -1,7 +1,7 @@
 //! The words of a command line.
 
 ghost use Rattle.std.specs.Prelude.{◌≡◌, ◌≤◌, ◌↔◌, IsTrue, IfOk, None, Some, MatchOption};
-ghost use Rattle.mt_session_spec.specs.Commands.{IsName, IsIdentifier, is_name_byte, is_identifier_byte, is_identifier_start};
+ghost use Rattle.mt_text_spec.specs.Words.{IsName, IsIdentifier, is_name_byte, is_identifier_byte, is_identifier_start};
 ghost use Rattle.mt_script.specs.Headers.{IsDecimal};
 ghost use Rattle.mt_script.specs.Reading.{Reads};
 ghost use Rattle.mt_script.specs.Reading as reading;

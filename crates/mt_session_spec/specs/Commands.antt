@@ -1,9 +1,9 @@
 -- The commands, and the lines that they are written in.
-use Rattle.std.specs.Prelude.{ℕ, ℤ, pos, neg_ℤ, ◌≤ℤ◌, ◌≡◌, ◌≢◌, ◌<◌, ◌≤◌, ◌^◌, ◌==◌, ◌⊎◌, Bool, true, ◌||◌, List, [], ◌∷◌, length, slice_index, codes, IsUtf8, Option, None, Some}
-use Rattle.std.specs.List.{AllPass, AllZip, join_with_byte}
-use Rattle.std.specs.Char.{is_ascii_alphanumeric, is_ascii_alphabetic}
+use Rattle.std.specs.Prelude.{ℕ, ℤ, pos, neg_ℤ, ◌≤ℤ◌, ◌≡◌, ◌≢◌, ◌<◌, ◌≤◌, ◌^◌, ◌⊎◌, List, [], ◌∷◌, length, codes, IsUtf8, Option, None, Some}
+use Rattle.std.specs.List.{AllZip, join_with_byte}
 use Rattle.std.specs.Fmt.{decimal}
 use Rattle.std.specs.Str.Lines.{lines}
+use Rattle.mt_text_spec.specs.Words.{IsName, IsIdentifier}
 
 -- ## What one may say
 
@@ -62,36 +62,10 @@ body_lines (BatchHead number merge) = number
 abbrev pub spaced : List (List ℕ) → List ℕ
 spaced words = join_with_byte 32 words
 
--- a letter, a digit, `_`, `-` or `.`
-abbrev pub is_name_byte : ℕ → Bool
-is_name_byte b = is_ascii_alphanumeric b || b == 95 || b == 45 || b == 46
-
--- a name, of a text or a file, is 1 to 64 such bytes, and begins with a letter or a digit
-pub record IsName (bytes : List ℕ) : Type 0 where
-  pub some : 0 < length bytes
-  pub short : length bytes ≤ 64
-  pub first : is_ascii_alphanumeric (slice_index bytes 0) ≡ true
-  pub each : AllPass is_name_byte bytes
-
 -- the name of a saved corpus leaves room for what is added to it
 pub record IsSavedName (bytes : List ℕ) : Type 0 where
   pub name : IsName bytes
   pub shorter : length bytes ≤ 56
-
--- a letter or `_`
-abbrev pub is_identifier_start : ℕ → Bool
-is_identifier_start b = is_ascii_alphabetic b || b == 95
-
--- a letter, a digit or `_`
-abbrev pub is_identifier_byte : ℕ → Bool
-is_identifier_byte b = is_ascii_alphanumeric b || b == 95
-
--- an identifier, of an attribute or a structure, is 1 to 64 such bytes, and begins with a letter or `_`
-pub record IsIdentifier (bytes : List ℕ) : Type 0 where
-  pub some : 0 < length bytes
-  pub short : length bytes ≤ 64
-  pub first : is_identifier_start (slice_index bytes 0) ≡ true
-  pub each : AllPass is_identifier_byte bytes
 
 -- A number is written in decimal without leading zeros; one of 1 to 9 digits is below this.
 abbrev pub IsSmall : ℕ → Type 0

@@ -1,13 +1,13 @@
 -- What a command means: the world before it and after it, and the reply.
-use Rattle.std.specs.Prelude.{ℕ, ◌≡◌, ◌+◌, ◌<◌, List, [], ◌∷◌, ◌++◌, length, codes, count_by}
+use Rattle.std.specs.Prelude.{ℕ, ◌≡◌, ◌<◌, List, [], ◌∷◌, ◌++◌, length, codes, count_by}
 use Rattle.std.specs.List.{AllPass, Any}
 use Rattle.std.specs.Char.{is_ascii_alphanumeric}
 use Rattle.std.specs.Str.{bytes_eq}
 use Rattle.std.specs.Fmt.{decimal}
 use Rattle.mt_text_spec.specs.Lines.{closed}
-use Rattle.mt_text_spec.specs.Texts.{Token, Text, value_of, tokens_of}
+use Rattle.mt_text_spec.specs.Texts.{Text, value_of, tokens_of}
 use Rattle.mt_text_spec.specs.Vertical.{Vertical, FirstNotPlain}
-use Rattle.mt_session_spec.specs.Commands.{Ask, Count, Command, Text as TextCommand, Asks}
+use Rattle.mt_session_spec.specs.Commands.{Count, Command, Text as TextCommand, Asks}
 
 -- the corpus that the accepted commands have left
 pub record World : Type 0 where

@@ -1,3 +1,6 @@
 pub mod Lines
+pub mod Queries
+pub mod Registries
 pub mod Texts
 pub mod Vertical
+pub mod Words

@@ -20,6 +20,7 @@ pub record Vertical (name body : List ℕ) (text : Text) : Type 0 where
   pub named : text.name ≡ name
   pub plain : All IsPlain (lines body)
   pub tokens : text.tokens ≡ map plain_token (lines body)
+  pub none : text.structs ≡ []
 
 -- the line of this number, counted from 1, is the first of the body's lines that is not plain
 pub record FirstNotPlain (body : List ℕ) (number : ℕ) : Type 0 where

@@ -45,7 +45,7 @@ pub fn read_text(alloc: Global, name: &str, bytes: &[u8]) -> Result<Text, TextEr
         }
         tokens.push(token_of(alloc, line)?)?;
     }
-    Ok(Text::new(name, tokens))
+    Ok(Text::new(name, tokens, List::new(alloc)))
 }
 
 /// Whether the line is a token.
