@@ -3,7 +3,7 @@ use Rattle.std.proofs.Common.{◌≡◌, ◌≢◌, ℕ, List, [], ◌∷◌, �
 use Rattle.std.specs.Prelude.{int_le}
 use Rattle.std.specs.Fmt.{decimal}
 use Rattle.mt_text_spec.specs.Words.{IsIdentifier}
-use Rattle.mt_session_spec.specs.Commands.{Ask, Count, Query, Freq, Colloc, Sketch, Thes, HasAskForm, IsSmall, IsSigned}
+use Rattle.mt_script_spec.specs.Commands.{Ask, Count, Query, Freq, Colloc, Sketch, Thes, HasAskForm, IsSmall, IsSigned}
 use Rattle.mt_script.specs.Reading.{cut, identifier_at, small_at, signed_at, rest_at, count_at, query_at, freq_at, colloc_at, sketch_at, thes_at}
 use Rattle.mt_script.proofs.Forms.{then_some, if_some, same, joined, cut_at, cut_parts, identifier_gives, identifier_at_yes, identifier_plain, small_gives, small_at_yes, small_plain, signed_gives, signed_at_yes, signed_plain, rest_gives, rest_at_yes, order_from, order_true}
 

@@ -4,7 +4,7 @@ use Rattle.std.specs.Prelude.{map}
 use Rattle.std.specs.List.{AllZip}
 use Rattle.std.specs.Str.Lines.{lines}
 use Rattle.std.proofs.lemmas.Grind.{common_steps}
-use Rattle.mt_session_spec.specs.Commands.{BatchLine, IsBatchLine}
+use Rattle.mt_script_spec.specs.Commands.{BatchLine, IsBatchLine}
 use Rattle.mt_script.specs.declared.command.BatchLine.{BatchLine as RustBatchLine}
 use Rattle.mt_script.specs.Seen.{batch_line_of}
 

@@ -15,7 +15,7 @@ use Rattle.std.proofs.lemmas.Str.Pattern.{IsSplitOnceResult, split_parts}
 use Rattle.std.specs.Str.Parse.{ParsesUnsigned}
 use Rattle.std.proofs.lemmas.Fmt.{digits_decimal, decimal_nonempty, decimal_digit, first_decimal, digits_value-decimal, decimal-digits_value}
 use Rattle.mt_text_spec.specs.Words.{IsName, IsIdentifier, is_name_byte, is_identifier_byte}
-use Rattle.mt_session_spec.specs.Commands.{IsSavedName, IsSmall, IsSigned, IsWithin}
+use Rattle.mt_script_spec.specs.Commands.{IsSavedName, IsSmall, IsSigned, IsWithin}
 use Rattle.mt_script.specs.Headers.{IsDecimal}
 use Rattle.mt_script.specs.declared.words.Unread.{Unread}
 use Rattle.mt_script.specs.Reading.{Reads, ◌>>=◌, cut, is_name, is_identifier, is_decimal, name_at, saved_name_at, identifier_at, decimal_at, number_at, small_at, plus_at, minus_at, signed_at, rest_at}

@@ -4,7 +4,7 @@ use Rattle.std.specs.Prelude.{nat_eq}
 use Rattle.std.specs.Cmp.Lexicographic.{pointwise}
 use Rattle.std.specs.Fmt.{decimal}
 use Rattle.mt_text_spec.specs.Words.{IsName, IsIdentifier}
-use Rattle.mt_session_spec.specs.Commands.{Registry, Add, Generate, Grammar, Merge, Save, Load, Remove, Subcorpus, Subcount, Keywords, Partner, Header, Lone, TextHead, RulesHead, BatchHead, HasForm, IsSavedName, IsSmall, IsWithin}
+use Rattle.mt_script_spec.specs.Commands.{Registry, Add, Generate, Grammar, Merge, Save, Load, Remove, Subcorpus, Subcount, Keywords, Partner, Header, Lone, TextHead, RulesHead, BatchHead, HasForm, IsSavedName, IsSmall, IsWithin}
 use Rattle.mt_script.specs.Reading.{cut, is_identifier, name_at, saved_name_at, identifier_at, decimal_at, number_at, small_at, rest_at, registry_at, text_at, add_at, generate_at, grammar_at, rules_at, range_at, merge_at, merging_at, batch_from, batch_at, save_at, load_at, remove_at, subcorpus_at, subcount_at, keywords_at, partner_at}
 use Rattle.mt_script.proofs.Forms.{then_some, if_some, same, joined, spelled, cut_at, cut_none, cut_parts, name_gives, name_at_yes, name_plain, saved_name_gives, saved_name_at_yes, identifier_from, identifier_true, identifier_gives, identifier_at_yes, identifier_plain, decimal_gives, decimal_at_yes, decimal_plain, number_gives, number_at_yes, within_plain, small_gives, small_at_yes, small_plain, rest_gives, rest_at_yes}
 

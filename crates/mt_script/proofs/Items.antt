@@ -7,8 +7,8 @@ use Rattle.std.proofs.lemmas.Grind.{common_steps}
 use Rattle.std.proofs.lemmas.List.{take-append-drop}
 use Rattle.std.proofs.lemmas.List.Elements.{All-nil, All-push, All-from_get_or}
 use Rattle.mt_text_spec.specs.Lines.{IsLine, Block, closed}
-use Rattle.mt_session_spec.specs.Commands.{Command, Header, body_lines, WithBody, IsHeader, IsSkipped}
-use Rattle.mt_session_spec.specs.Script.{Item, Given, Bad, CutShort, ClosedLine, OpenLine, Whole, Commanded, Refused, Broken, Begins, Nothing, Skips, Then, IsRest}
+use Rattle.mt_script_spec.specs.Commands.{Command, Header, body_lines, WithBody, IsHeader, IsSkipped}
+use Rattle.mt_script_spec.specs.Script.{Item, Given, Bad, CutShort, ClosedLine, OpenLine, Whole, Commanded, Refused, Broken, Begins, Nothing, Skips, Then, IsRest}
 use Rattle.mt_script.specs.Places.{NoFeed, LineAt}
 use Rattle.mt_script.specs.Scans.{Opened}
 

@@ -2,7 +2,7 @@
 use Rattle.std.proofs.Common.{◌≡◌, ℕ, Bool, true, false, if◌then◌else◌, ◌≤◌, length, List, ◌∷◌, ◌++◌, codes, Option, Some, None, refl, sym, ◌∙◌, ap}
 use Rattle.std.specs.Prelude.{nat_eq}
 use Rattle.std.specs.Cmp.Lexicographic.{pointwise}
-use Rattle.mt_session_spec.specs.Commands.{Ask, Count, Query, Freq, Colloc, Sketch, Thes, Command, Registry, Text, Add, Generate, Asks, Grammar, Rules, Merge, Batch, Segments, Save, Load, Quit, Remove, Subcorpus, Subcount, Keywords, Partner, Header, Lone, TextHead, RulesHead, BatchHead, HasAskForm, HasLoneForm, HasForm, line_limit, IsHeader, IsAsked}
+use Rattle.mt_script_spec.specs.Commands.{Ask, Count, Query, Freq, Colloc, Sketch, Thes, Command, Registry, Text, Add, Generate, Asks, Grammar, Rules, Merge, Batch, Segments, Save, Load, Quit, Remove, Subcorpus, Subcount, Keywords, Partner, Header, Lone, TextHead, RulesHead, BatchHead, HasAskForm, HasLoneForm, HasForm, line_limit, IsHeader, IsAsked}
 use Rattle.std.specs.Str.{IsUtf8}
 use Rattle.std.proofs.lemmas.Option.{none-some}
 use Rattle.mt_script.specs.declared.keyword.Keyword.{Keyword}

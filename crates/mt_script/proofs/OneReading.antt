@@ -3,8 +3,8 @@ use Rattle.std.proofs.Common.{◌≡◌, ℕ, ◌+◌, ◌<◌, ◌≤◌, suc, 
 use Rattle.std.specs.List.{All, AllZip, flat_map}
 use Rattle.std.specs.Str.Lines.{lines, strip_carriage_return}
 use Rattle.mt_text_spec.specs.Lines.{IsLine, Block, closed}
-use Rattle.mt_session_spec.specs.Commands.{Command, Batch, BatchLine, Good, BadLine, Header, Lone, TextHead, RulesHead, BatchHead, body_lines, WithBody, IsBatchLine, IsHeader, IsSkipped}
-use Rattle.mt_session_spec.specs.Script.{Item, Given, ClosedLine, OpenLine, FirstLine, ClosedBody, OpenBody, Body, Fewer, Whole, Commanded, Refused, Broken, Begins, Nothing, Skips, Then, IsRest, Items}
+use Rattle.mt_script_spec.specs.Commands.{Command, Batch, BatchLine, Good, BadLine, Header, Lone, TextHead, RulesHead, BatchHead, body_lines, WithBody, IsBatchLine, IsHeader, IsSkipped}
+use Rattle.mt_script_spec.specs.Script.{Item, Given, ClosedLine, OpenLine, FirstLine, ClosedBody, OpenBody, Body, Fewer, Whole, Commanded, Refused, Broken, Begins, Nothing, Skips, Then, IsRest, Items}
 use Rattle.std.proofs.lemmas.Bool.{true≢false}
 use Rattle.mt_script.proofs.LineForms.{one_header, one_ask}
 

@@ -5,8 +5,8 @@ use Rattle.std.proofs.lemmas.List.{drop-append-le}
 use Rattle.std.proofs.lemmas.Grind.{common_steps}
 use Rattle.std.specs.Str.Lines.{strip_carriage_return}
 use Rattle.mt_text_spec.specs.Lines.{IsLine, closed}
-use Rattle.mt_session_spec.specs.Commands.{Command, Header, body_lines, WithBody, IsHeader, IsSkipped}
-use Rattle.mt_session_spec.specs.Script.{Item, Given, Bad, CutShort, Begins, Nothing, IsRest}
+use Rattle.mt_script_spec.specs.Commands.{Command, Header, body_lines, WithBody, IsHeader, IsSkipped}
+use Rattle.mt_script_spec.specs.Script.{Item, Given, Bad, CutShort, Begins, Nothing, IsRest}
 use Rattle.mt_script.specs.declared.header.Header.{Header as RustHeader}
 use Rattle.mt_script.specs.Headers.{header_of}
 use Rattle.mt_script.specs.Places.{NoFeed, Looked, LineAt}

@@ -1,7 +1,7 @@
 -- What contracts see of a command line's header.
 use Rattle.std.specs.Prelude.{ℕ, ◌≡◌, ◌<◌, List, length, slice_index}
 use Rattle.std.specs.Char.{IsAsciiDigit}
-use Rattle.mt_session_spec.specs.Commands.{Header, Lone, TextHead, RulesHead, BatchHead}
+use Rattle.mt_script_spec.specs.Commands.{Header, Lone, TextHead, RulesHead, BatchHead}
 use Rattle.mt_script.specs.declared.header.Header.{Header as RustHeader}
 use Rattle.mt_script.specs.declared.header.Header.TheVariants as rust
 use Rattle.mt_script.specs.Seen.{command_of}

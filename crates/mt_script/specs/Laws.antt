@@ -1,7 +1,7 @@
 -- A script is read in one way.
 use Rattle.std.specs.Prelude.{◌≡◌, ℕ, Bool, List}
-use Rattle.mt_session_spec.specs.Commands.{Header, IsHeader}
-use Rattle.mt_session_spec.specs.Script.{Item, Items}
+use Rattle.mt_script_spec.specs.Commands.{Header, IsHeader}
+use Rattle.mt_script_spec.specs.Script.{Item, Items}
 
 -- a line has at most one header
 abbrev pub OneHeader : Type 0

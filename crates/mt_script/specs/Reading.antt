@@ -5,7 +5,7 @@ use Rattle.std.specs.Char.{is_ascii_alphanumeric, is_ascii_digit}
 use Rattle.std.specs.Cmp.Lexicographic.{pointwise}
 use Rattle.std.specs.Str.Parse.{digits_value}
 use Rattle.mt_text_spec.specs.Words.{is_name_byte, is_identifier_start, is_identifier_byte}
-use Rattle.mt_session_spec.specs.Commands.{Ask, Count, Query, Freq, Colloc, Sketch, Thes, Registry, Add, Generate, Asks, Grammar, Merge, Segments, Save, Load, Quit, Remove, Subcorpus, Subcount, Keywords, Partner, Header, Lone, TextHead, RulesHead, BatchHead}
+use Rattle.mt_script_spec.specs.Commands.{Ask, Count, Query, Freq, Colloc, Sketch, Thes, Registry, Add, Generate, Asks, Grammar, Merge, Segments, Save, Load, Quit, Remove, Subcorpus, Subcount, Keywords, Partner, Header, Lone, TextHead, RulesHead, BatchHead}
 use Rattle.mt_script.specs.declared.words.Unread.{Unread}
 use Rattle.mt_script.specs.declared.words.Unread.TheVariants as unread
 use Rattle.mt_script.specs.declared.keyword.Keyword.{Keyword}

@@ -2,8 +2,8 @@
 use Rattle.std.specs.Prelude.{ℕ, ◌≡◌, ◌+◌, ◌≤◌, Bool, true, false, List, [], ◌∷◌, ◌++◌, length, drop, Option, None, Some, IsSome}
 use Rattle.std.specs.Str.Lines.{strip_carriage_return}
 use Rattle.mt_text_spec.specs.Lines.{IsLine, Block}
-use Rattle.mt_session_spec.specs.Commands.{Header, body_lines, IsHeader, IsSkipped}
-use Rattle.mt_session_spec.specs.Script.{Item, Given, Bad as BadItem, CutShort as CutItem, Begins, IsRest}
+use Rattle.mt_script_spec.specs.Commands.{Header, body_lines, IsHeader, IsSkipped}
+use Rattle.mt_script_spec.specs.Script.{Item, Given, Bad as BadItem, CutShort as CutItem, Begins, IsRest}
 use Rattle.mt_script.specs.declared.header.Header.{Header as RustHeader}
 use Rattle.mt_script.specs.declared.scan.Scan.{Scan}
 use Rattle.mt_script.specs.declared.scan.Found.{Found}

@@ -1,6 +1,6 @@
 -- What contracts see of commands.
 use Rattle.std.specs.Prelude.{map}
-use Rattle.mt_session_spec.specs.Commands.{Ask, Count, Query, Freq, Colloc, Sketch, Thes, BatchLine, Good, BadLine, Command, Registry, Text, Add, Generate, Asks, Grammar, Rules, Merge, Batch, Segments, Save, Load, Quit, Remove, Subcorpus, Subcount, Keywords, Partner}
+use Rattle.mt_script_spec.specs.Commands.{Ask, Count, Query, Freq, Colloc, Sketch, Thes, BatchLine, Good, BadLine, Command, Registry, Text, Add, Generate, Asks, Grammar, Rules, Merge, Batch, Segments, Save, Load, Quit, Remove, Subcorpus, Subcount, Keywords, Partner}
 use Rattle.mt_script.specs.declared.command.Ask.{Ask as RustAsk}
 use Rattle.mt_script.specs.declared.command.Ask.TheVariants as ask
 use Rattle.mt_script.specs.declared.command.BatchLine.{BatchLine as RustBatchLine}

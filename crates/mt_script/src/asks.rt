@@ -1,7 +1,7 @@
 //! Questions, in lines of a script and of a batch.
 
 ghost use Rattle.std.specs.Prelude.{◌≡◌, IfOk, List};
-ghost use Rattle.mt_session_spec.specs.Commands.{IsBatchLine};
+ghost use Rattle.mt_script_spec.specs.Commands.{IsBatchLine};
 ghost use Rattle.mt_script.specs.Seen.{ask_of, batch_line_of};
 ghost use Rattle.mt_script.specs.Reading.{Reads, count_at, query_at, freq_at, colloc_at, sketch_at, thes_at, ask_at, asked_at};
 

@@ -3,9 +3,9 @@
 ghost use Rattle.std.specs.Prelude.{◌≡◌, List, IfOk, MatchOption, map};
 ghost use Rattle.std.specs.List.{AllZip};
 ghost use Rattle.std.specs.Str.Lines.{lines};
-ghost use Rattle.mt_session_spec.specs.Commands.{IsHeader, IsBatchLine, body_lines, WithBody};
+ghost use Rattle.mt_script_spec.specs.Commands.{IsHeader, IsBatchLine, body_lines, WithBody};
 ghost use Rattle.mt_script.specs.Seen.{command_of, batch_line_of};
-ghost use Rattle.mt_session_spec.specs.Commands as spec;
+ghost use Rattle.mt_script_spec.specs.Commands as spec;
 ghost use Rattle.mt_script.specs.Headers.{header_of};
 ghost use Rattle.mt_script.specs.Reading.{Reads, word_at, words_at, line_at};
 

@@ -2,7 +2,7 @@
 
 ghost use Rattle.std.specs.Prelude.{◌≡◌, ℕ, ◌≤◌, ◌<◌, ◌↔◌, IsTrue, length, MatchOption, IfSome};
 ghost use Rattle.std.specs.Str.Lines.{strip_carriage_return};
-ghost use Rattle.mt_session_spec.specs.Commands.{IsSkipped};
+ghost use Rattle.mt_script_spec.specs.Commands.{IsSkipped};
 ghost use Rattle.mt_script.specs.Places.{NoFeed, Looked, LineAt};
 
 use memchr::memchr;

@@ -1,7 +1,7 @@
 //! The bytes of a script, of which the front was given out, and how far they were looked at.
 
 ghost use Rattle.std.specs.Prelude.{◌≡◌, ℕ, ◌≤◌, ◌<◌, [], length, take, drop, Bool, true, false, IsSome, IfOk, OnOk, OnErr, None, ◌++◌};
-ghost use Rattle.mt_session_spec.specs.Commands.{IsSkipped};
+ghost use Rattle.mt_script_spec.specs.Commands.{IsSkipped};
 ghost use Rattle.mt_text_spec.specs.Lines.{IsLine, closed};
 ghost use Rattle.std.specs.Str.Lines.{strip_carriage_return};
 ghost use Rattle.mt_script.specs.Places.{NoFeed, LineAt};

@@ -1,6 +1,6 @@
 -- What is answered to the items of a script.
 use Rattle.std.specs.Prelude.{ℕ, ◌≡◌, List, [], ◌∷◌, ◌++◌}
-use Rattle.mt_session_spec.specs.Script.{Item, Given, Bad, CutShort}
+use Rattle.mt_script_spec.specs.Script.{Item, Given, Bad, CutShort}
 use Rattle.mt_session_spec.specs.World.{World, Step, refusal_line, BadCommand, CutShort as CutShortRefusal}
 
 -- one item

@@ -1,7 +1,7 @@
 -- What a run has read and written when it ends, by the way in which it ends. `input` are the bytes that the source had left and `left` those that it has left now;
 -- `before` are the bytes that the sink held and `after` those that it holds now.
 use Rattle.std.specs.Prelude.{ℕ, ◌≡◌, ◌≤◌, Bool, true, false, List, [], ◌∷◌, ◌++◌, length, Option, Some}
-use Rattle.mt_session_spec.specs.Script.{Item, Items, Begins}
+use Rattle.mt_script_spec.specs.Script.{Item, Items, Begins}
 use Rattle.mt_session_spec.specs.World.{World, first_world}
 use Rattle.mt_session_spec.specs.Replies.{Replies}
 

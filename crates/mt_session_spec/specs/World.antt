@@ -6,8 +6,8 @@ use Rattle.std.specs.Str.{bytes_eq}
 use Rattle.std.specs.Fmt.{decimal}
 use Rattle.mt_text_spec.specs.Lines.{closed}
 use Rattle.mt_text_spec.specs.Texts.{Text, value_of, tokens_of}
-use Rattle.mt_text_spec.specs.Vertical.{Vertical, FirstNotPlain}
-use Rattle.mt_session_spec.specs.Commands.{Count, Command, Text as TextCommand, Asks}
+use Rattle.mt_file_spec.specs.Vertical.{Vertical, FirstNotPlain}
+use Rattle.mt_script_spec.specs.Commands.{Count, Command, Text as TextCommand, Asks}
 
 -- the corpus that the accepted commands have left
 pub record World : Type 0 where

@@ -1,2 +1,2 @@
-//! What a script holds, what its commands mean and what is answered: definitions alone, which the contracts of other crates cite.
+//! What the commands of a script mean and what is answered: definitions alone, which the contracts of other crates cite.
 #![tactic(auto)]

@@ -8,7 +8,7 @@ use Rattle.mt_outside.specs.declared.sink.SinkError.TheVariants.{Failed, NoMemor
 use Rattle.std.proofs.lemmas.List.Elements.{All-nil}
 use Rattle.mt_outside.specs.Told.{Told, Takes}
 use Rattle.mt_outside.specs.Faults.{Rose, last_count}
-use Rattle.mt_session_spec.specs.Script.{Nothing, IsRest}
+use Rattle.mt_script_spec.specs.Script.{Nothing, IsRest}
 use Rattle.mt_session_spec.specs.World.{World, first_world}
 use Rattle.mt_session_spec.specs.Runs.{script_limit, EndsWell, EndsWithFault, EndsTooLong, EndsInPart}
 use Rattle.mt_script.proofs.Items.{then_begins}

@@ -5,8 +5,8 @@ use Rattle.std.proofs.lemmas.List.Elements.{All-same, recursion_from_All}
 use Rattle.std.specs.List.{AllByRecursion}
 use Rattle.mt_text_spec.specs.Lines.{closed}
 use Rattle.mt_text_spec.specs.Texts.{Text}
-use Rattle.mt_text_spec.specs.Vertical.{Vertical, FirstNotPlain, IsPlain}
-use Rattle.mt_session_spec.specs.Commands.{Command, Text as TextCommand, Asks, Count}
+use Rattle.mt_file_spec.specs.Vertical.{Vertical, FirstNotPlain, IsPlain}
+use Rattle.mt_script_spec.specs.Commands.{Command, Text as TextCommand, Asks, Count}
 use Rattle.mt_session_spec.specs.World.{World, Holds, Refusal, BadCommand, CutShort, NameTaken, NotBuilt, rank, Refuses, IsRefused, Fine, Declined, Accepted, IsLiteral, occurrences}
 use Rattle.mt_shell.specs.declared.session.Reply.{Reply}
 use Rattle.mt_shell.specs.declared.session.Reply.TheVariants.{Lines, NoMemory}

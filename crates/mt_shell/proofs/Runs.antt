@@ -2,7 +2,7 @@
 use Rattle.std.proofs.Common.{◌≡◌, ◌≢◌, ℕ, ◌<◌, ◌≤◌, inl, inr, Bool, true, false, List, [], ◌∷◌, ◌++◌, length, Option, Some, None, arith, refl, sym, append_assoc, append-nil, subst, MatchOption}
 use Rattle.std.proofs.lemmas.Grind.{common_steps}
 use Rattle.mt_outside.specs.Told.{Told}
-use Rattle.mt_session_spec.specs.Script.{Item, Given, Bad, CutShort, ClosedLine, FirstLine, Body, Whole, Commanded, Refused, Broken, Begins, Nothing, Skips, Then, IsRest}
+use Rattle.mt_script_spec.specs.Script.{Item, Given, Bad, CutShort, ClosedLine, FirstLine, Body, Whole, Commanded, Refused, Broken, Begins, Nothing, Skips, Then, IsRest}
 use Rattle.mt_session_spec.specs.World.{World}
 use Rattle.mt_session_spec.specs.Replies.{ItemStep, Replies}
 use Rattle.mt_script.specs.declared.command.Next.{Next}

@@ -1,7 +1,7 @@
 -- What a talk has answered.
 use Rattle.std.proofs.Common.{◌≡◌, ℕ, List, ◌++◌, Option, Some, Result, Ok, Err, OnErr, sym, ◌∙◌, ap}
-use Rattle.mt_session_spec.specs.Commands.{Command}
-use Rattle.mt_session_spec.specs.Script.{Item}
+use Rattle.mt_script_spec.specs.Commands.{Command}
+use Rattle.mt_script_spec.specs.Script.{Item}
 use Rattle.mt_session_spec.specs.World.{World, Step, Starved, no_memory_line}
 use Rattle.mt_session_spec.specs.Replies.{ItemStep}
 use Rattle.mt_shell.specs.Reads.{Replied, RepliedInPart, WroteFront}

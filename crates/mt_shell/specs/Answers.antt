@@ -3,7 +3,7 @@ use Rattle.std.specs.Prelude.{◌≡◌, ◌++◌, length, codes}
 use Rattle.std.specs.Fmt.{decimal}
 use Rattle.mt_text_spec.specs.Lines.{closed}
 use Rattle.mt_text_spec.specs.Texts.{Text}
-use Rattle.mt_session_spec.specs.Commands.{Command}
+use Rattle.mt_script_spec.specs.Commands.{Command}
 use Rattle.mt_session_spec.specs.World.{World, Refusal, Fine, with_text, refusal_line}
 use Rattle.mt_shell.specs.declared.session.Reply.{Reply}
 use Rattle.mt_shell.specs.declared.session.Reply.TheVariants.{Lines, NoMemory}

@@ -1,6 +1,6 @@
 -- How far a run has come.
 use Rattle.std.specs.Prelude.{ℕ, ◌≡◌, Bool, List, ◌++◌, Option, Some, None}
-use Rattle.mt_session_spec.specs.Script.{Item, Given, Bad, CutShort, Begins}
+use Rattle.mt_script_spec.specs.Script.{Item, Given, Bad, CutShort, Begins}
 use Rattle.mt_session_spec.specs.World.{World}
 use Rattle.mt_session_spec.specs.Replies.{ItemStep, Replies}
 use Rattle.mt_script.specs.Seen.{command_of}

@@ -5,7 +5,7 @@ ghost use Rattle.std.specs.Fmt.{decimal};
 ghost use Rattle.std.specs.Str.{bytes_eq};
 ghost use Rattle.mt_text_spec.specs.Lines.{closed};
 ghost use Rattle.mt_text_spec.specs.Texts.{value_of};
-ghost use Rattle.mt_session_spec.specs.Commands as spec;
+ghost use Rattle.mt_script_spec.specs.Commands as spec;
 ghost use Rattle.mt_session_spec.specs.World.{Holds, occurrences, first_world};
 ghost use Rattle.mt_script.specs.Seen.{ask_of, command_of};
 ghost use Rattle.mt_shell.specs.Refusals.{refusal_of};

@@ -3,7 +3,7 @@
 ghost use Rattle.std.specs.Prelude.{◌≡◌, ◌≤◌, ◌↔◌, ◌++◌, [], Some, true, false, IsTrue, OnOk, OnErr, IsErrOf, MatchOption};
 ghost use Rattle.mt_outside.specs.Told.{Told};
 ghost use Rattle.mt_outside.specs.Faults.{Rose};
-ghost use Rattle.mt_session_spec.specs.Script.{Item, Given, IsRest};
+ghost use Rattle.mt_script_spec.specs.Script.{Item, Given, IsRest};
 ghost use Rattle.mt_session_spec.specs.World.{first_world};
 ghost use Rattle.mt_script.specs.Seen.{command_of};
 ghost use Rattle.mt_shell.specs.Reads.{Replied, RepliedInPart, Progress, ProgressInPart, item_of, IsLast};

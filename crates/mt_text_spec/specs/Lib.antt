@@ -2,5 +2,4 @@ pub mod Lines
 pub mod Queries
 pub mod Registries
 pub mod Texts
-pub mod Vertical
 pub mod Words

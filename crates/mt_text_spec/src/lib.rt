@@ -1,2 +1,2 @@
-//! What a text is, what its lines are, and how a text is read from lines: definitions alone, which the contracts of other crates cite.
+//! What a registry, a text and a query are and what lines are: definitions alone, which the contracts of other crates cite.
 #![tactic(auto)]

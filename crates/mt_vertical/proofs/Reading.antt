@@ -6,7 +6,7 @@ use Rattle.std.specs.Str.Lines.{lines}
 use Rattle.std.proofs.lemmas.Grind.{common_steps}
 use Rattle.std.proofs.lemmas.List.Elements.{All-push}
 use Rattle.mt_text_spec.specs.Texts.{Token}
-use Rattle.mt_text_spec.specs.Vertical.{IsPlain, plain_token}
+use Rattle.mt_file_spec.specs.Vertical.{IsPlain, plain_token}
 
 -- the lines before the rest are plain, and these are their tokens
 pub record HasRead (body : List ℕ) (rest : List (List ℕ)) (tokens : List Token) : Type 0 where

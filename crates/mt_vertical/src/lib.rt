@@ -2,7 +2,7 @@
 #![tactic(auto)]
 
 ghost use Rattle.std.specs.Prelude.{◌≡◌, ◌↔◌, ℕ, IfOk, IsTrue};
-ghost use Rattle.mt_text_spec.specs.Vertical.{FirstNotPlain, IsPlain, Vertical, plain_token};
+ghost use Rattle.mt_file_spec.specs.Vertical.{FirstNotPlain, IsPlain, Vertical, plain_token};
 
 use mt_base::{Lines, List, NoMemory, Text, Token, Value};
 use std::alloc::Global;

@@ -1,5 +1,5 @@
 use Rattle.std.proofs.lemmas.Result.{on_ok_weaker, on_err_weaker}
-use Rattle.mt_session_spec.specs.Script.{Given}
+use Rattle.mt_script_spec.specs.Script.{Given}
 use Rattle.mt_session_spec.specs.World.{Meant, no_memory_line}
 use Rattle.mt_script.specs.Seen.{command_of}
 use Rattle.mt_shell.proofs.Talks.{whole_reply, front_reply, starved}

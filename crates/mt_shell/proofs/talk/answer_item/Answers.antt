@@ -1,6 +1,6 @@
 use Rattle.std.proofs.Common.{refl, ap}
 use Rattle.std.proofs.lemmas.Result.{on_ok_weaker, on_err_weaker}
-use Rattle.mt_session_spec.specs.Script.{Given, Bad, CutShort}
+use Rattle.mt_script_spec.specs.Script.{Given, Bad, CutShort}
 use Rattle.mt_session_spec.specs.World.{refusal_line, BadCommand, CutShort as CutShortRefusal}
 use Rattle.mt_script.specs.Seen.{command_of}
 use Rattle.mt_shell.specs.Reads.{item_of}

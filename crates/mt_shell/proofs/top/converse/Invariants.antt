@@ -1,7 +1,7 @@
 -- What was read so far is answered, but for a rest that is no whole item.
 use Rattle.std.proofs.Common.{◌≡◌, ◌≤◌, ◌-◌, length, false}
 use Rattle.mt_outside.specs.Told.{Told}
-use Rattle.mt_session_spec.specs.Script.{IsRest}
+use Rattle.mt_script_spec.specs.Script.{IsRest}
 use Rattle.mt_shell.specs.Ends.{Took, ReadsOn}
 use Rattle.mt_shell.proofs.top.converse.Given as goal
 

@@ -1,5 +1,5 @@
 use Rattle.std.proofs.Common.{◌+◌, arith, refl}
-use Rattle.mt_session_spec.specs.Script.{Nothing}
+use Rattle.mt_script_spec.specs.Script.{Nothing}
 use Rattle.mt_script.specs.Scans.{wait}
 use Rattle.mt_script.proofs.ScanSteps.{bad_here, opened_here, looked_from}
 use Rattle.mt_script.proofs.scan.Scan.keep_header.Goals as goal

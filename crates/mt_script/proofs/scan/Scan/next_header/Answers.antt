@@ -1,6 +1,6 @@
 use Rattle.std.proofs.Common.{refl, ◌∙◌}
 use Rattle.mt_script.proofs.ScanSteps.{skipped_here, no_feed_line, finds_after}
-use Rattle.mt_session_spec.specs.Script.{Nothing}
+use Rattle.mt_script_spec.specs.Script.{Nothing}
 use Rattle.mt_script.specs.Scans.{wait}
 use Rattle.mt_script.proofs.scan.Scan.next_header.Goals as goal
 

@@ -1,5 +1,5 @@
 use Rattle.std.proofs.Common.{◌≡◌, refl, arith}
-use Rattle.mt_session_spec.specs.Commands.{body_lines}
+use Rattle.mt_script_spec.specs.Commands.{body_lines}
 use Rattle.mt_script.specs.Headers.{header_of}
 use Rattle.mt_script.specs.Scans.{wait}
 use Rattle.mt_script.specs.Seen.{command_of}

@@ -1,5 +1,5 @@
 use Rattle.std.proofs.Common.{[], ◌++◌, refl, append-nil}
-use Rattle.mt_session_spec.specs.Script.{Nothing}
+use Rattle.mt_script_spec.specs.Script.{Nothing}
 use Rattle.mt_shell.proofs.talk.Talk.take.Goals as goal
 
 pub returns-in-Ok-clause-ok : goal.returns-in-Ok-clause-ok

@@ -2,7 +2,7 @@
 use Rattle.std.specs.Prelude.{ℕ, ◌≡◌, ◌≢◌, ◌+◌, ◌<◌, ◌⊎◌, Bool, true, false, List, [], ◌∷◌, ◌++◌}
 use Rattle.std.specs.Str.Lines.{strip_carriage_return}
 use Rattle.mt_text_spec.specs.Lines.{IsLine, Block, closed}
-use Rattle.mt_session_spec.specs.Commands.{Command, Header, body_lines, WithBody, IsHeader, IsSkipped}
+use Rattle.mt_script_spec.specs.Commands.{Command, Header, body_lines, WithBody, IsHeader, IsSkipped}
 
 -- An item is a command, a line that is no command, or a body that the input cuts short.
 pub data Item : Type 0 where
