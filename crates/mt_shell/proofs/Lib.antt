@@ -3,3 +3,4 @@ pub mod Meanings
 pub mod Talks
 pub mod Runs
 pub mod Endings
+pub mod Corpora

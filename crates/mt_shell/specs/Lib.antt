@@ -3,3 +3,4 @@ pub mod Answers
 pub mod Reads
 pub mod Words
 pub mod Ends
+pub mod Corpora

@@ -1,6 +1,7 @@
 //! The session, and the run of a whole script: what the program does.
 #![tactic(auto)]
 
+mod corpus;
 mod literal;
 mod refusal;
 mod session;

@@ -11,6 +11,7 @@ ghost use Rattle.mt_script.specs.Seen.{ask_of, command_of};
 ghost use Rattle.mt_shell.specs.Refusals.{refusal_of};
 ghost use Rattle.mt_shell.specs.Answers.{Answers, Keeps, Declines};
 
+use super::corpus::Corpus;
 use super::literal::literal;
 use super::refusal::Refusal;
 use mt_base::{List, NoMemory, Text, Token, Value};
@@ -32,7 +33,7 @@ pub enum Reply {
 #[derive(Drop)]
 pub struct Session {
     alloc: Global,
-    texts: List<Text>,
+    corpus: Corpus,
 }
 
 impl Model for Session {
@@ -40,7 +41,7 @@ impl Model for Session {
 
     ghost Value = { World };
 
-    ghost view = { λ s. record { corpus = s.texts } };
+    ghost view = { λ s. record { corpus = s.corpus } };
 }
 
 impl Session {
@@ -50,7 +51,7 @@ impl Session {
     {
         Session {
             alloc,
-            texts: List::new(alloc),
+            corpus: Corpus::new(alloc),
         }
     }
 
@@ -79,7 +80,7 @@ impl Session {
     fn add_text(&mut self, name: &Value, body: &List<u8>) -> Reply
         ensures { Answers self.old (spec.Text name.now body.now) result self.new }
     {
-        if self.holds(name.as_str()) {
+        if self.holds(name) {
             return refused(self.alloc, &Refusal::NameTaken(name.as_str()));
         }
         match read_text(self.alloc, name.as_str(), body.as_slice()) {
@@ -91,25 +92,23 @@ impl Session {
 
     /// Keeps a text behind the others. The reply is made first.
     fn keep(&mut self, text: Text) -> Reply
+        requires { Holds self.old text.name → ⊥ }
         ensures { Keeps self.old text result self.new }
     {
         let Ok(reply) = count_line(self.alloc, "ok", text.len() as u128) else {
             return Reply::NoMemory;
         };
-        match self.texts.push(text) {
+        match self.corpus.add(text) {
             Ok(()) => Reply::Lines(reply),
             Err(NoMemory) => Reply::NoMemory,
         }
     }
 
     /// Whether a text with this name is held.
-    fn holds(&self, name: &str) -> bool
+    fn holds(&self, name: &Value) -> bool
         ensures { IsTrue result ↔ Holds self.now name.now }
     {
-        self.texts
-            .as_slice()
-            .iter()
-            .any(|text| text.name().as_str() == name)
+        self.corpus.holds(name)
     }
 
     /// `count`: the number of tokens with the query's word.
@@ -130,7 +129,7 @@ impl Session {
         ensures { result ≡ occurrences self.now.corpus word.now }
     {
         let mut total = 0;
-        for text in self.texts.as_slice() {
+        for text in self.corpus.texts() {
             total += occurrences_in(text.tokens().as_slice(), word) as u128;
         }
         total
