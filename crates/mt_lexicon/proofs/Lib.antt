@@ -2,6 +2,7 @@ pub mod Blocks
 pub mod FirstSight
 pub mod Halves
 pub mod Joined
+pub mod Lexicons
 pub mod Merged
 pub mod Order
 pub mod Places

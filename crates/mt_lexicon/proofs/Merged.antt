@@ -3,9 +3,10 @@ use Rattle.std.proofs.Common.{◌≡◌, ℕ, ◌+◌, ◌<◌, List, [], ◌∷
 use Rattle.std.specs.List.{All, AllZip, Contains}
 use Rattle.std.proofs.lemmas.List.{map-append, take-append-drop, nil_from_length}
 use Rattle.std.proofs.lemmas.List.Concat.{flat_map-append}
-use Rattle.std.proofs.lemmas.List.Elements.{All-nil, All-cons, All-append, All-weaker, All-contains, Contains-append_left, Contains-append_right, Contains-append_cases}
-use Rattle.mt_store_spec.specs.Lexicons.{IsLexiconOf, Renumbers, all_values}
+use Rattle.std.proofs.lemmas.List.Elements.{All-nil, All-cons, All-append, All-weaker, All-contains, All-contains_itself, Contains-append_left, Contains-append_right, Contains-append_cases}
+use Rattle.mt_store_spec.specs.Lexicons.{IsLexiconOf, Renumbers, AreFew, all_values}
 use Rattle.mt_lexicon.specs.Joins.{Joins, JoinsMerged, Merges, renumbered}
+use Rattle.mt_lexicon.proofs.Lexicons.{few_part}
 use Rattle.mt_lexicon.proofs.Renumbered.{numbers_within, renumbers_then}
 
 -- ---- few parts
@@ -94,8 +95,34 @@ halves_merged parts front back first second values firsts seconds all e h g j =
 pub in_halves : {X : Type 0} (f : X → List (List ℕ)) (n : ℕ) (parts front back : List X) → front ≡ take n parts → back ≡ drop n parts → map f parts ≡ map f front ++ map f back
 in_halves f n parts front back e g = ap (map f) (sym (take-append-drop n parts) ∙ ap₂ ◌++◌ (sym e) (sym g)) ∙ map-append f front back
 
-pub half_length : (parts front back : List (List (List ℕ))) → parts ≡ front ++ back → length (all_values parts) ≡ length (all_values front) + length (all_values back)
-half_length parts front back e = ap (λ (p : List (List (List ℕ))). length (all_values p)) e ∙ ap length (flat_map-append (λ part. part) front back) ∙ length-append (all_values front) (all_values back)
+-- the values of each half are among those of the parts
+both_halves : (parts front back : List (List (List ℕ))) → parts ≡ front ++ back → all_values front ++ all_values back ≡ all_values parts
+both_halves parts front back e = sym (flat_map-append (λ part. part) front back) ∙ ap all_values (sym e)
+
+front_values : (parts front back : List (List (List ℕ))) → parts ≡ front ++ back → (x : List ℕ) → Contains (all_values front) x → Contains (all_values parts) x
+front_values parts front back e x c = subst (λ (all : List (List ℕ)). Contains all x) (both_halves parts front back e) (Contains-append_left (all_values front) (all_values back) x c)
+
+back_values : (parts front back : List (List (List ℕ))) → parts ≡ front ++ back → (x : List ℕ) → Contains (all_values back) x → Contains (all_values parts) x
+back_values parts front back e x c = subst (λ (all : List (List ℕ)). Contains all x) (both_halves parts front back e) (Contains-append_right (all_values front) (all_values back) x c)
+
+pub front_few : (parts front back : List (List (List ℕ))) → parts ≡ front ++ back → AreFew (all_values parts) → AreFew (all_values front)
+front_few parts front back e few =
+    few_part (all_values parts) (all_values front) few
+    (All-weaker (Contains (all_values front)) (Contains (all_values parts)) (front_values parts front back e) (all_values front) (All-contains_itself (all_values front)))
+
+pub back_few : (parts front back : List (List (List ℕ))) → parts ≡ front ++ back → AreFew (all_values parts) → AreFew (all_values back)
+back_few parts front back e few =
+    few_part (all_values parts) (all_values back) few
+    (All-weaker (Contains (all_values back)) (Contains (all_values parts)) (back_values parts front back e) (all_values back) (All-contains_itself (all_values back)))
+
+-- and so are those of their lexicons
+pub lexicons_few : (parts front back : List (List (List ℕ))) (first second : List (List ℕ)) → parts ≡ front ++ back → AreFew (all_values parts) → IsLexiconOf (all_values front) first → IsLexiconOf (all_values back) second →
+    AreFew (first ++ second)
+lexicons_few parts front back first second e few h g =
+    few_part (all_values parts) (first ++ second) few
+    (All-append (Contains (all_values parts)) first second
+    (All-weaker (Contains (all_values front)) (Contains (all_values parts)) (front_values parts front back e) first h.only)
+    (All-weaker (Contains (all_values back)) (Contains (all_values parts)) (back_values parts front back e) second g.only))
 
 -- ---- what the code pushes and takes apart
 

@@ -6,12 +6,14 @@
 #![tactic(auto)]
 
 mod builder;
+mod laws;
 mod lexicon;
 mod merger;
 mod renumbering;
 mod strings;
 
 pub use builder::LexiconBuilder;
+pub use laws::{have_a_lexicon, have_one_lexicon, is_shortest, is_told_by_members};
 pub use lexicon::Lexicon;
 pub use merger::LexiconMerger;
 pub use renumbering::Renumbering;

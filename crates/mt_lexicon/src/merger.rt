@@ -2,7 +2,7 @@
 
 ghost use Rattle.std.specs.Prelude.{◌≡◌, ◌+◌, ◌^◌, ◌<◌, ◌≤◌, [], ◌∷◌, ◌++◌, length, map, IfOk, OnOk, OnErr};
 ghost use Rattle.std.specs.List.{All, AllZip};
-ghost use Rattle.mt_store_spec.specs.Lexicons.{IsLexiconOf, Renumbers, all_values};
+ghost use Rattle.mt_store_spec.specs.Lexicons.{IsLexiconOf, Renumbers, AreFew, all_values};
 ghost use Rattle.mt_lexicon.specs.Joins.{Joins, JoinsMerged, Merges, ComesNext, renumbered};
 
 use super::lexicon::Lexicon;
@@ -54,7 +54,7 @@ impl<'a> LexiconMerger<'a> {
     /// The lexicons are joined in pairs, and what comes of them in pairs again, so that each value is passed as often as the number of
     /// lexicons can be halved.
     pub fn finish(self) -> Result<(Lexicon, List<Renumbering>), NoMemory>
-        requires { length (all_values self) < 2 ^ 32 }
+        requires { AreFew (all_values self) }
         ensures lexicon { IfOk result (λ r. IsLexiconOf (all_values self.entry) r.0) }
         ensures short { IfOk result (λ r. length r.0 ≤ length (all_values self.entry)) }
         ensures numbers { IfOk result (λ r. AllZip (λ part numbers. Renumbers numbers part r.0) self.entry r.1) }
@@ -73,7 +73,7 @@ struct Merged {
 
 /// Joins parts in halves.
 fn merge(alloc: Global, parts: &[&Lexicon]) -> Result<Merged, NoMemory>
-    requires { length (all_values (map (λ part. part.now) parts.now)) < 2 ^ 32 }
+    requires { AreFew (all_values (map (λ part. part.now) parts.now)) }
     ensures { IfOk result (λ merged. Merges (map (λ part. part.now) parts.now) merged.lexicon merged.renumberings.items) }
 {
     if parts.len() <= 2 {
@@ -88,7 +88,7 @@ fn merge(alloc: Global, parts: &[&Lexicon]) -> Result<Merged, NoMemory>
 /// Joins at most two parts.
 fn merge_few(alloc: Global, parts: &[&Lexicon]) -> Result<Merged, NoMemory>
     requires few { length parts.now ≤ 2 }
-    requires fits { length (all_values (map (λ part. part.now) parts.now)) < 2 ^ 32 }
+    requires fits { AreFew (all_values (map (λ part. part.now) parts.now)) }
     ensures { IfOk result (λ merged. Merges (map (λ part. part.now) parts.now) merged.lexicon merged.renumberings.items) }
 {
     let nothing = Lexicon::from_strings(Strings::new(alloc));
@@ -118,7 +118,7 @@ fn merge_few(alloc: Global, parts: &[&Lexicon]) -> Result<Merged, NoMemory>
 
 /// Joins what two halves of the parts came to.
 fn join_merged(alloc: Global, first: Merged, second: Merged) -> Result<Merged, NoMemory>
-    requires few { length first.lexicon + length second.lexicon < 2 ^ 32 }
+    requires few { AreFew (first.lexicon ++ second.lexicon) }
     requires first { All (λ numbers. All (λ n. n < length first.lexicon) numbers) first.renumberings.items }
     requires second { All (λ numbers. All (λ n. n < length second.lexicon) numbers) second.renumberings.items }
     ensures { IfOk result (λ merged. JoinsMerged first.lexicon second.lexicon merged.lexicon first.renumberings.items second.renumberings.items merged.renumberings.items) }
@@ -155,7 +155,7 @@ struct Joined {
 
 /// Joins two lexicons, in one pass over both.
 fn join(alloc: Global, first: &Lexicon, second: &Lexicon) -> Result<Joined, NoMemory>
-    requires { length first.now + length second.now < 2 ^ 32 }
+    requires { AreFew (first.now ++ second.now) }
     ensures { IfOk result (λ joined. Joins first.now second.now joined.lexicon joined.first joined.second) }
 {
     let mut values = Strings::new(alloc);

@@ -1,9 +1,9 @@
 //! Each call once, with memory enough.
 
-ghost use Rattle.std.specs.Prelude.{◌≡◌, ◌<◌};
+ghost use Rattle.std.specs.Prelude.{◌≡◌, ◌<◌, length};
 
-use super::{Lexicon, LexiconBuilder, LexiconMerger};
-use mt_base::{NoMemory, Steps, Value};
+use super::{Lexicon, LexiconBuilder, LexiconMerger, Renumbering};
+use mt_base::{List, NoMemory, Steps, Value};
 use std::alloc::Global;
 use std::marker::Brand;
 use std::sync::ledger::{Blank, Ledger};
@@ -54,15 +54,27 @@ fn finds_by_bytes(rt: HostRuntime) -> Result<(), Fail> {
     Ok(())
 }
 
+/// Two lexicons joined.
+fn merged(
+    alloc: Global,
+    first: &Lexicon,
+    second: &Lexicon,
+) -> Result<(Lexicon, List<Renumbering>), NoMemory>
+    requires first { length first.now < 3 }
+    requires second { length second.now < 3 }
+{
+    let mut merger = LexiconMerger::new(alloc)?;
+    merger.add(first)?;
+    merger.add(second)?;
+    merger.finish()
+}
+
 #[test]
 fn merges_in_order_of_adding(rt: HostRuntime) -> Result<(), Fail> {
     let first = lexicon_of(rt.alloc(), "dog", "the")?;
     let second = lexicon_of(rt.alloc(), "ant", "the")?;
     assert!(rt; first.len() < 3 && second.len() < 3);
-    let mut merger = LexiconMerger::new(rt.alloc())?;
-    merger.add(&first)?;
-    merger.add(&second)?;
-    let (lexicon, numbers) = merger.finish()?;
+    let (lexicon, numbers) = merged(rt.alloc(), &first, &second)?;
     assert_eq!(rt; lexicon.len(), 3);
     assert_eq!(rt; lexicon.value(0), "ant");
     assert_eq!(rt; numbers.len(), 2);

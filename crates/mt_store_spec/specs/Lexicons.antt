@@ -1,5 +1,5 @@
 -- What a lexicon is: the distinct values of an attribute in ascending order of their bytes, each numbered by its place, from 0.
-use Rattle.std.specs.Prelude.{ℕ, ◌≡◌, ◌<◌, List, [], ◌∷◌, ◌++◌, length, slice_get, slice_index, if◌then◌else◌}
+use Rattle.std.specs.Prelude.{ℕ, ◌≡◌, ◌^◌, ◌<◌, ◌≤◌, List, [], ◌∷◌, ◌++◌, length, slice_get, slice_index, if◌then◌else◌}
 use Rattle.std.specs.List.{All, AllPairs, Contains, list_any, flat_map}
 use Rattle.std.specs.Str.{bytes_eq}
 use Rattle.std.specs.Ordering.{nat_cmp}
@@ -32,3 +32,23 @@ seen_with values value = if list_any (bytes_eq value) values then values else va
 -- the values of the parts, one part after the other
 abbrev pub all_values : List (List (List ℕ)) → List (List ℕ)
 all_values parts = flat_map (λ part. part) parts
+
+-- few enough of the values are distinct: their lexicon has fewer than 2^32
+abbrev pub AreFew : List (List ℕ) → Type 0
+AreFew values = (lexicon : List (List ℕ)) → IsLexiconOf values lexicon → length lexicon < 2 ^ 32
+
+-- values have a lexicon
+abbrev pub HaveALexicon : Type 0
+HaveALexicon = (values : List (List ℕ)) → (lexicon : List (List ℕ)) × IsLexiconOf values lexicon
+
+-- and one only
+abbrev pub HaveOneLexicon : Type 0
+HaveOneLexicon = (values a b : List (List ℕ)) → IsLexiconOf values a → IsLexiconOf values b → a ≡ b
+
+-- which does not depend on the order in which they come, nor on how often each does
+abbrev pub IsToldByMembers : Type 0
+IsToldByMembers = (values others a b : List (List ℕ)) → All (Contains others) values → All (Contains values) others → IsLexiconOf values a → IsLexiconOf others b → a ≡ b
+
+-- no list that holds all of them is shorter
+abbrev pub IsShortest : Type 0
+IsShortest = (values others lexicon : List (List ℕ)) → All (Contains others) values → IsLexiconOf values lexicon → length lexicon ≤ length others

@@ -1,9 +1,29 @@
-use Rattle.std.proofs.Common.{◌/◌, length, map}
+use Rattle.std.proofs.Common.{◌/◌, length, map, arith}
 use Rattle.std.proofs.lemmas.Result.{IfOk-weaker}
 use Rattle.mt_lexicon.specs.declared.merger.Merged.{Merged}
 use Rattle.mt_lexicon.specs.Joins.{JoinsMerged, Merges}
-use Rattle.mt_lexicon.proofs.Merged.{all_within, halves_merged, in_halves}
+use Rattle.mt_lexicon.proofs.Merged.{all_within, halves_merged, in_halves, front_few, back_few, lexicons_few}
 use Rattle.mt_lexicon.proofs.merger.+merge.Goals as goal
+
+pub merge-requires : goal.merge-requires
+merge-requires t c = (
+  omega (arith, c.decreases, c.split_at.ensures.front_len, c.if-parts-le2.false),
+  front_few (map (λ part. part.now) c.args.parts.now) (map (λ part. part.now) c.split_at.result.0.now) (map (λ part. part.now) c.split_at.result.1.now)
+  (in_halves (λ part. part.now) (length c.args.parts.now / 2) c.args.parts.now c.split_at.result.0.now c.split_at.result.1.now c.split_at.ensures.front c.split_at.ensures.back) c.requires,
+)
+
+pub merge-requires-2 : goal.merge-requires-2
+merge-requires-2 t c = (
+  omega (arith, c.decreases, c.split_at.ensures.back_len, c.if-parts-le2.false),
+  back_few (map (λ part. part.now) c.args.parts.now) (map (λ part. part.now) c.split_at.result.0.now) (map (λ part. part.now) c.split_at.result.1.now)
+  (in_halves (λ part. part.now) (length c.args.parts.now / 2) c.args.parts.now c.split_at.result.0.now c.split_at.result.1.now c.split_at.ensures.front c.split_at.ensures.back) c.requires,
+)
+
+pub join_merged-requires-clause-few : goal.join_merged-requires-clause-few
+join_merged-requires-clause-few t c =
+    lexicons_few (map (λ part. part.now) c.args.parts.now) (map (λ part. part.now) c.split_at.result.0.now) (map (λ part. part.now) c.split_at.result.1.now) c.in_ok-front.front.lexicon c.in_ok-back.back.lexicon
+    (in_halves (λ part. part.now) (length c.args.parts.now / 2) c.args.parts.now c.split_at.result.0.now c.split_at.result.1.now c.split_at.ensures.front c.split_at.ensures.back) c.requires
+    c.in_ok-front.ensures.lexicon c.in_ok-back.ensures.lexicon
 
 pub join_merged-requires-clause-first : goal.join_merged-requires-clause-first
 join_merged-requires-clause-first t c = all_within (map (λ part. part.now) c.split_at.result.0.now) c.in_ok-front.front.lexicon c.in_ok-front.front.renumberings.items c.in_ok-front.ensures.each

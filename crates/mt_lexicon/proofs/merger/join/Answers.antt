@@ -1,10 +1,20 @@
-use Rattle.std.proofs.Common.{Some, subst}
+use Rattle.std.proofs.Common.{◌++◌, Some, subst, arith}
 use Rattle.std.specs.declared.cmp.Ordering.{Ordering}
 use Rattle.std.specs.declared.cmp.Ordering.TheVariants.{Less, Equal, Greater}
 use Rattle.mt_lexicon.specs.Joins.{ComesNext}
 use Rattle.mt_lexicon.proofs.Joined.{first_more, second_more, both_more, all_joined}
+use Rattle.mt_lexicon.proofs.Lexicons.{few_some}
 use Rattle.mt_lexicon.proofs.Order.{ended}
 use Rattle.mt_lexicon.proofs.merger.join.Goals as goal
+
+pub overflow_cast-number : goal.overflow_cast-number
+overflow_cast-number c =
+    let short = few_some (c.args.first.now ++ c.args.second.now) c.loop-order.values c.requires c.loop-order.invariant.ascending c.loop-order.invariant.only in
+    omega (arith, c.len-number.ensures)
+
+pub from_strings-requires-clause-few : goal.from_strings-requires-clause-few
+from_strings-requires-clause-few c =
+    few_some (c.args.first.now ++ c.args.second.now) c.loop-order.values c.requires c.loop-order.invariant.ascending c.loop-order.invariant.only
 
 pub loop-order-preserved-in-Less : goal.loop-order-preserved-in-Less
 loop-order-preserved-in-Less c =
