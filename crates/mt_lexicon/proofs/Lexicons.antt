@@ -4,7 +4,7 @@ use Rattle.std.specs.Ordering.{nat_cmp}
 use Rattle.std.specs.Cmp.Lexicographic.{slice_cmp}
 use Rattle.std.specs.declared.cmp.Ordering.{Ordering}
 use Rattle.std.specs.declared.cmp.Ordering.TheVariants.{Less, Equal, Greater}
-use Rattle.std.specs.List.{All, AllPairs, Contains}
+use Rattle.std.specs.List.{All, Contains}
 use Rattle.std.proofs.lemmas.List.Elements.{All-nil, All-cons, All-head, All-tail, All-weaker, All-from_get_or, All-contains, All-contains_itself, Contains-get_or, Contains-append_right}
 use Rattle.std.proofs.lemmas.List.Kept.{AllPairs-cons}
 use Rattle.mt_store_spec.specs.Lexicons.{IsBelow, IsAscending, IsLexiconOf, AreFew, HaveALexicon, HaveOneLexicon, IsToldByMembers, IsShortest}
@@ -61,12 +61,12 @@ inside (x ∷ xs) [] up rise h = absurd (no_member x (All-head (Contains []) x x
 inside (x ∷ xs) (y ∷ ys) up rise h =
     elim (member_cases y x ys (All-head (Contains (y ∷ ys)) x xs h)) [
       | inl e ↦
-        let l = inside xs ys (rest_ascending x xs up) (rest_ascending y ys rise) (rests_within x y xs ys up e h) in
-        omega arith
+          let l = inside xs ys (rest_ascending x xs up) (rest_ascending y ys rise) (rests_within x y xs ys up e h) in
+          omega arith
       | inr c ↦
-        let low : IsBelow y x = All-contains (IsBelow y) ys x (first_below y ys rise) c in
-        let l = inside (x ∷ xs) ys up (rest_ascending y ys rise) (not_first y ys (x ∷ xs) h (below_all y (x ∷ xs) (below_first y x xs up low))) in
-        omega arith
+          let low : IsBelow y x = All-contains (IsBelow y) ys x (first_below y ys rise) c in
+          let l = inside (x ∷ xs) ys up (rest_ascending y ys rise) (not_first y ys (x ∷ xs) h (below_all y (x ∷ xs) (below_first y x xs up low))) in
+          omega arith
     ]
 
 -- where lists hold each other's first values, they begin alike

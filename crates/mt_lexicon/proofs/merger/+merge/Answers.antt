@@ -9,14 +9,14 @@ pub merge-requires : goal.merge-requires
 merge-requires t c = (
   omega (arith, c.decreases, c.split_at.ensures.front_len, c.if-parts-le2.false),
   front_few (map (λ part. part.now) c.args.parts.now) (map (λ part. part.now) c.split_at.result.0.now) (map (λ part. part.now) c.split_at.result.1.now)
-  (in_halves (λ part. part.now) (length c.args.parts.now / 2) c.args.parts.now c.split_at.result.0.now c.split_at.result.1.now c.split_at.ensures.front c.split_at.ensures.back) c.requires,
+      (in_halves (λ part. part.now) (length c.args.parts.now / 2) c.args.parts.now c.split_at.result.0.now c.split_at.result.1.now c.split_at.ensures.front c.split_at.ensures.back) c.requires,
 )
 
 pub merge-requires-2 : goal.merge-requires-2
 merge-requires-2 t c = (
   omega (arith, c.decreases, c.split_at.ensures.back_len, c.if-parts-le2.false),
   back_few (map (λ part. part.now) c.args.parts.now) (map (λ part. part.now) c.split_at.result.0.now) (map (λ part. part.now) c.split_at.result.1.now)
-  (in_halves (λ part. part.now) (length c.args.parts.now / 2) c.args.parts.now c.split_at.result.0.now c.split_at.result.1.now c.split_at.ensures.front c.split_at.ensures.back) c.requires,
+      (in_halves (λ part. part.now) (length c.args.parts.now / 2) c.args.parts.now c.split_at.result.0.now c.split_at.result.1.now c.split_at.ensures.front c.split_at.ensures.back) c.requires,
 )
 
 pub join_merged-requires-clause-few : goal.join_merged-requires-clause-few

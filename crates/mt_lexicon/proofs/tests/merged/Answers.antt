@@ -1,5 +1,5 @@
 -- The values of two short lexicons are few.
-use Rattle.std.proofs.Common.{◌≡◌, ℕ, ◌<◌, List, [], ◌∷◌, ◌++◌, length, arith, length-append}
+use Rattle.std.proofs.Common.{◌≡◌, ℕ, ◌^◌, ◌<◌, List, [], ◌∷◌, ◌++◌, length, arith, length-append}
 use Rattle.mt_store_spec.specs.Lexicons.{AreFew, all_values}
 use Rattle.mt_lexicon.proofs.Lexicons.{few_when_short}
 use Rattle.mt_lexicon.proofs.Merged.{two_pushed}
