@@ -149,10 +149,10 @@ body_more b header body line end missing fewer o l e =
 opened_line : (b : List ℕ) (header : Header) (body line missing : ℕ) → (o : Opened b header body line missing) → ClosedLine b (strip_carriage_return o.raw) (o.front ++ drop line b)
 opened_line b header body line missing o = record { raw = o.raw; are = o.are; one = o.one; is = refl }
 
-rest_of : (b raw front rest : List ℕ) (body : ℕ) → b ≡ raw ++ 10 ∷ (front ++ rest) → body ≡ length raw + 1 → drop body b ≡ front ++ rest
+pub rest_of : (b raw front rest : List ℕ) (body : ℕ) → b ≡ raw ++ 10 ∷ (front ++ rest) → body ≡ length raw + 1 → drop body b ≡ front ++ rest
 rest_of b raw front rest body e s = rw (e, s) (drop-append-add raw (10 ∷ (front ++ rest)) 1)
 
-front_of : (b raw front rest : List ℕ) (body line : ℕ) → b ≡ raw ++ 10 ∷ (front ++ rest) → body ≡ length raw + 1 → line ≡ body + length front → slice_range b body line ≡ front
+pub front_of : (b raw front rest : List ℕ) (body line : ℕ) → b ≡ raw ++ 10 ∷ (front ++ rest) → body ≡ length raw + 1 → line ≡ body + length front → slice_range b body line ≡ front
 front_of b raw front rest body line e s t =
     let n : line - body ≡ length front = omega arith in
     ap (λ s. take (line - body) s) (rest_of b raw front rest body e s) ∙ ap (λ n. take n (front ++ rest)) n ∙ take-append_seam front rest

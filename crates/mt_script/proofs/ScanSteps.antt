@@ -4,7 +4,7 @@ use Rattle.std.proofs.Math.Seq.{drop-length}
 use Rattle.std.proofs.lemmas.List.{drop-append-le}
 use Rattle.std.proofs.lemmas.Grind.{common_steps}
 use Rattle.std.specs.Str.Lines.{strip_carriage_return}
-use Rattle.mt_text_spec.specs.Lines.{IsLine, closed}
+use Rattle.mt_text_spec.specs.Lines.{IsLine, Block, closed}
 use Rattle.mt_script_spec.specs.Commands.{Command, Header, body_lines, WithBody, IsHeader, IsSkipped}
 use Rattle.mt_script_spec.specs.Script.{Item, Given, Bad, CutShort, Begins, Nothing, IsRest}
 use Rattle.mt_script.specs.declared.header.Header.{Header as RustHeader}
@@ -17,7 +17,7 @@ use Rattle.mt_script.specs.declared.scan.Scan.{Scan}
 use Rattle.mt_script.specs.declared.scan.Found.{Found}
 use Rattle.mt_script.specs.declared.scan.Found.TheVariants.{Header as FoundHeader, Bad as FoundBad, Partial}
 use Rattle.mt_base.specs.declared.NoMemory.{NoMemory}
-use Rattle.mt_script.proofs.Items.{then_begins, rest_line, drop_none, bad_item, opened, skipped_more, body_more, command_item, lacks_body, cut_item, last_item}
+use Rattle.mt_script.proofs.Items.{then_begins, rest_line, drop_none, bad_item, opened, skipped_more, body_more, command_item, lacks_body, cut_item, last_item, rest_of, front_of}
 
 -- nothing was looked at from here on
 pub looked_from : (b : List ℕ) (at : ℕ) → at ≤ length b → Looked b at at
@@ -94,10 +94,16 @@ last_here was header b new bytes body line missing e o m none low ne s n command
     let made : WithBody (header_of header) (closed (drop body b)) command = subst (λ t. WithBody (header_of header) t command) s whole in
     rw n (last_item b (header_of header) body line missing command p m none (not_nothing b line low ne) made)
 
--- the body begins within the bytes
-pub body_within : (was : Option RustHeader) (b : List ℕ) (body line missing : ℕ) → IsSome was → Opens was b body line missing → line ≤ length b → body ≤ length b
-body_within None b body line missing some o low = cc
-body_within (Some header) b body line missing some o low = let at : line ≡ body + length o.front = o.line_at in omega arith
+-- the lines that are there of the body
+pub lines_here : (was : Option RustHeader) (b : List ℕ) (body line missing : ℕ) → IsSome was → Opens was b body line missing → (n : ℕ) × Block n (slice_range b body line)
+lines_here None b body line missing some o = cc
+lines_here (Some header) b body line missing some o = (o.got, subst (Block o.got) (sym (front_of b o.raw o.front (drop line b) body line o.are o.body_at o.line_at)) o.lines)
+
+-- the body is these lines and what follows them
+pub body_here : (was : Option RustHeader) (b : List ℕ) (body line missing : ℕ) → IsSome was → Opens was b body line missing → slice_range b body line ++ drop line b ≡ drop body b
+body_here None b body line missing some o = cc
+body_here (Some header) b body line missing some o =
+    ap (λ s. s ++ drop line b) (front_of b o.raw o.front (drop line b) body line o.are o.body_at o.line_at) ∙ sym (rest_of b o.raw o.front (drop line b) body o.are o.body_at)
 
 pub gives_after : (ended : Bool) (a b c : List ℕ) (next : Next) → Begins ended a [] b → Gives ended b next c → StarvesOr (Gives ended a next c) next
 gives_after ended a b c (NextCommand command) t g = then_begins a b c [] _ t g

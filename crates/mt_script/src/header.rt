@@ -1,8 +1,9 @@
 //! What a command line is, by its words.
 
-ghost use Rattle.std.specs.Prelude.{◌≡◌, List, IfOk, MatchOption, map};
+ghost use Rattle.std.specs.Prelude.{◌≡◌, ℕ, List, ◌++◌, IfOk, MatchOption, map};
 ghost use Rattle.std.specs.List.{AllZip};
 ghost use Rattle.std.specs.Str.Lines.{lines};
+ghost use Rattle.mt_text_spec.specs.Lines.{IsLine, Block, closed};
 ghost use Rattle.mt_script_spec.specs.Commands.{IsHeader, IsBatchLine, body_lines, WithBody};
 ghost use Rattle.mt_script.specs.Seen.{command_of, batch_line_of};
 ghost use Rattle.mt_script_spec.specs.Commands as spec;
@@ -16,6 +17,7 @@ use super::heads::{
     read_text,
 };
 use super::keyword::{Keyword, read_keyword};
+use super::lines::without_return;
 use super::words::{Unread, split};
 use super::{BatchLine, Command};
 use mt_base::{Lines, List, NoMemory, Value};
@@ -58,20 +60,72 @@ impl Header {
         }
     }
 
-    /// The command with this body.
-    pub fn with_body(self, alloc: Global, body: List<u8>) -> Result<Command, NoMemory>
-        ensures { IfOk result (λ command. WithBody (header_of self) body (command_of command)) }
+    /// The command with this body. Only what is given out is copied.
+    pub fn with_body(self, alloc: Global, body: &[u8]) -> Result<Command, NoMemory>
+        ensures { IfOk result (λ command. WithBody (header_of self) body.now (command_of command)) }
     {
         match self {
             Header::Lone(command) => Ok(command),
-            Header::Text { name, .. } => Ok(Command::Text { name, body }),
-            Header::Rules { .. } => Ok(Command::Rules { body }),
+            Header::Text { name, .. } => {
+                let body = copied(alloc, body)?;
+                Ok(Command::Text { name, body })
+            }
+            Header::Rules { .. } => {
+                let body = copied(alloc, body)?;
+                Ok(Command::Rules { body })
+            }
             Header::Batch { merge, .. } => {
-                let lines = read_lines(alloc, body.as_slice())?;
+                let lines = read_lines(alloc, body)?;
                 Ok(Command::Batch { lines, merge })
             }
         }
     }
+
+    /// The command whose body is these lines and a last one, which gets the line feed that it lacks.
+    pub fn with_open_body(
+        self,
+        alloc: Global,
+        front: &[u8],
+        last: &[u8],
+    ) -> Result<Command, NoMemory>
+        requires front { (n : ℕ) × Block n front.now }
+        requires last { IsLine last.now }
+        ensures { IfOk result (λ command. WithBody (header_of self) (closed (front.now ++ last.now)) (command_of command)) }
+    {
+        match self {
+            Header::Lone(command) => Ok(command),
+            Header::Text { name, .. } => {
+                let body = closed_copy(alloc, front, last)?;
+                Ok(Command::Text { name, body })
+            }
+            Header::Rules { .. } => {
+                let body = closed_copy(alloc, front, last)?;
+                Ok(Command::Rules { body })
+            }
+            Header::Batch { merge, .. } => {
+                let lines = read_open_lines(alloc, front, last)?;
+                Ok(Command::Batch { lines, merge })
+            }
+        }
+    }
+}
+
+fn copied(alloc: Global, bytes: &[u8]) -> Result<List<u8>, NoMemory>
+    ensures { IfOk result (λ copy. copy ≡ bytes.now) }
+{
+    Ok(List::from_vec(Vec::from_slice(alloc, bytes)?))
+}
+
+/// A copy of lines and of a last one with the line feed that it lacks.
+fn closed_copy(alloc: Global, front: &[u8], last: &[u8]) -> Result<List<u8>, NoMemory>
+    ensures { IfOk result (λ copy. copy ≡ closed (front.now ++ last.now)) }
+{
+    let length = front.len().saturating_add(last.len()).saturating_add(1);
+    let mut copy = List::with_capacity(alloc, length)?;
+    copy.extend(front)?;
+    copy.extend(last)?;
+    copy.push(b'\n')?;
+    Ok(copy)
 }
 
 /// The lines of a batch.
@@ -82,6 +136,17 @@ fn read_lines(alloc: Global, body: &[u8]) -> Result<List<BatchLine>, NoMemory>
     for line in Lines::new(body) {
         read.push(read_batch_line(alloc, line)?)?;
     }
+    Ok(read)
+}
+
+/// The lines of a batch, the last of which lacks its line feed.
+fn read_open_lines(alloc: Global, front: &[u8], last: &[u8]) -> Result<List<BatchLine>, NoMemory>
+    requires front { (n : ℕ) × Block n front.now }
+    requires last { IsLine last.now }
+    ensures { IfOk result (λ read. AllZip IsBatchLine (lines (closed (front.now ++ last.now))) (map batch_line_of read)) }
+{
+    let mut read = read_lines(alloc, front)?;
+    read.push(read_batch_line(alloc, without_return(last))?)?;
     Ok(read)
 }
 

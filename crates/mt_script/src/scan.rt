@@ -10,7 +10,7 @@ ghost use Rattle.mt_script.specs.Scans.{wait, IsSound, FindsHeader, Gives, Starv
 use super::header::{Header, read_header};
 use super::lines::{is_skipped, line_end, without_return};
 use super::{Command, Next};
-use mt_base::{List, NoMemory};
+use mt_base::NoMemory;
 use std::alloc::Global;
 
 /// Bytes of a script. All places but `start` are counted from `start`.
@@ -61,7 +61,7 @@ impl Scan {
 
     /// The bytes that were not given out.
     fn waiting(&self) -> &[u8]
-        requires { IsSound self.now }
+        requires { self.now.start ≤ length self.now.held.items }
         ensures { result.now ≡ wait self.now }
     {
         &self.held[self.start..]
@@ -161,13 +161,11 @@ impl Scan {
         ensures held { self.new.held ≡ self.old.held }
         ensures gives { (ended : Bool) → Gives ended (wait self.old) result (wait self.new) }
     {
-        let Ok(body) = Vec::from_slice(alloc, &self.waiting()[self.body..self.line]) else {
-            return Next::NoMemory;
-        };
         match self.header.take() {
             None => unreachable!(),
             Some(header) => {
-                let Ok(command) = header.with_body(alloc, List::from_vec(body)) else {
+                let body = &self.waiting()[self.body..self.line];
+                let Ok(command) = header.with_body(alloc, body) else {
                     self.give_out(0);
                     return Next::NoMemory;
                 };
@@ -203,7 +201,7 @@ impl Scan {
             self.give_out_all();
             return Next::CutShort;
         }
-        let Ok(command) = header.with_body(alloc, List::new(alloc)) else {
+        let Ok(command) = header.with_body(alloc, &[]) else {
             return Next::NoMemory;
         };
         self.give_out_all();
@@ -224,13 +222,12 @@ impl Scan {
             self.give_out_all();
             return Next::CutShort;
         }
-        let Ok(body) = self.last_body(alloc) else {
-            return Next::NoMemory;
-        };
         match self.header.take() {
             None => unreachable!(),
             Some(header) => {
-                let Ok(command) = header.with_body(alloc, List::from_vec(body)) else {
+                let front = &self.waiting()[self.body..self.line];
+                let last = &self.waiting()[self.line..];
+                let Ok(command) = header.with_open_body(alloc, front, last) else {
                     self.give_out(0);
                     return Next::NoMemory;
                 };
@@ -238,19 +235,6 @@ impl Scan {
                 Next::Command(command)
             }
         }
-    }
-
-    /// The bytes of the last body, with the line feed that the input lacks.
-    fn last_body(&self, alloc: Global) -> Result<Vec<u8>, NoMemory>
-        requires sound { IsSound self.now }
-        requires within { self.now.body ≤ length (wait self.now) }
-        ensures { IfOk result (λ body. body.items ≡ closed (drop self.now.body (wait self.now))) }
-    {
-        let lines = &self.waiting()[self.body..];
-        let mut body = Vec::with_capacity(alloc, lines.len().saturating_add(1))?;
-        body.extend_from_slice(lines)?;
-        body.push(b'\n')?;
-        Ok(body)
     }
 
     fn give_out_all(&mut self)

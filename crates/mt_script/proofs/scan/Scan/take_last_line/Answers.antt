@@ -29,5 +29,4 @@ returns-clause-gives c =
     let good = rw (c.in-Some.is, c.waiting-line.ensures) at c.in-Ok.ensures in
     let stays = rw c.waiting-line.ensures at c.if-is_skipped.ensures.1 in
     let none : body_lines (header_of c.in-Some.header) ≡ 0 = rw (← c.lines.ensures) (omega arith) in
-    let whole = rw c.new.ensures at c.in-Ok-with_body.ensures in
-    rw c.give_out_all-2.ensures.wait (command_last (wait c.args.self.now) (header_of c.in-Some.header) (command_of c.in-Ok-with_body.command) c.requires.line (λ s. not_true (stays s)) good none whole)
+    rw c.give_out_all-2.ensures.wait (command_last (wait c.args.self.now) (header_of c.in-Some.header) (command_of c.in-Ok-with_body.command) c.requires.line (λ s. not_true (stays s)) good none c.in-Ok-with_body.ensures)
