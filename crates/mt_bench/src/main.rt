@@ -1,15 +1,17 @@
-//! Measures the crates at the engine's heart, each beside a plain loop over vectors or a map of the standard library.
+//! Measures the crates at the engine's heart and the script reader, each beside a plain loop over vectors or a map of the standard
+//! library.
 //!
 //! Without the word `all` it measures nothing, so that what it prints is the same at every run.
 #![tactic(auto)]
 
+mod lexicons;
+mod scripts;
 mod work;
 
 use mt_base::NoMemory;
 use std::rt::Clock;
 use std::time::Instant;
 use std::{env, io};
-use work::Input;
 
 /// A workload is run so many times, and the best time counts.
 const RUNS: u32 = 5;
@@ -19,15 +21,20 @@ fn main(rt: HostRuntime) -> io::Result<()> {
     if !is_asked {
         return println!(rt; "mt_bench all: measures the crates");
     }
-    match Input::new(rt.alloc()) {
-        Ok(input) => measure(&rt, &input),
-        Err(NoMemory) => println!(rt; "memory was wanted"),
+    println!(rt; "workload / plain loop: the best times in nanoseconds, and their ratio")?;
+    match work::Input::new(rt.alloc()) {
+        Ok(input) => measure(&rt, &input)?,
+        Err(NoMemory) => println!(rt; "memory was wanted")?,
     }
+    match lexicons::Input::new(rt.alloc()) {
+        Ok(input) => measure_lexicons(&rt, &input)?,
+        Err(NoMemory) => println!(rt; "memory was wanted")?,
+    }
+    measure_scripts(&rt)
 }
 
-/// Measures each workload.
-fn measure(rt: &HostRuntime, input: &Input) -> io::Result<()> {
-    println!(rt; "workload / plain loop: the best times in nanoseconds, and their ratio")?;
+/// Measures codes, posting lists, numbering and scores.
+fn measure(rt: &HostRuntime, input: &work::Input) -> io::Result<()> {
     let alloc = rt.alloc();
     compare(
         rt,
@@ -65,6 +72,45 @@ fn measure(rt: &HostRuntime, input: &Input) -> io::Result<()> {
         || work::score(input),
         || work::product(input),
     )
+}
+
+/// Measures what is done with lexicons.
+fn measure_lexicons(rt: &HostRuntime, input: &lexicons::Input) -> io::Result<()> {
+    let alloc = rt.alloc();
+    compare(
+        rt,
+        "find / binary_search",
+        || lexicons::find(input),
+        || lexicons::search(input),
+    )?;
+    compare(
+        rt,
+        "merge / clones in order",
+        || lexicons::merge(alloc, input),
+        || lexicons::join(alloc, input),
+    )
+}
+
+/// Measures the script reader over a text of 192 MiB, and of half of it.
+fn measure_scripts(rt: &HostRuntime) -> io::Result<()> {
+    let alloc = rt.alloc();
+    for pieces in [1_536, 3_072] {
+        let lines = pieces * scripts::PIECE_LINES;
+        println!(rt; "a script of {} bytes", u64::from(lines) * 8)?;
+        compare(
+            rt,
+            "read by one byte / push",
+            || scripts::read_bytes(alloc, lines),
+            || scripts::push_bytes(alloc, lines),
+        )?;
+        compare(
+            rt,
+            "read by 64 KiB / extend",
+            || scripts::read_pieces(alloc, pieces),
+            || scripts::push_pieces(alloc, pieces),
+        )?;
+    }
+    Ok(())
 }
 
 /// Measures a workload and a plain loop beside it.
