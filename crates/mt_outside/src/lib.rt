@@ -1,25 +1,33 @@
-//! Where bytes come from and go to, by traits, and both in memory, where chosen calls fail.
+//! Where bytes come from and go to and where files are kept, by traits, and each in memory, where chosen calls fail.
 //!
-//! An object may tell its bytes: what a source has left, what a sink holds. Clauses on bytes hold where it does. Its
-//! count of faults never falls, and a call that fails raises it, or finds and leaves it at its last value.
-//! Contracts see a `MemorySource` as a `Reading` and a `MemorySink` as a `Writing`.
+//! An object may tell what it has: the bytes that a source has left or a sink holds, the files of a shelf. Clauses on
+//! bytes and files hold where it does. The count of faults of a source or a sink never falls, and a call that fails
+//! raises it, or finds and leaves it at its last value. A shelf keeps the names at which calls failed.
+//! Contracts see a `MemorySource` as a `Reading`, a `MemorySink` as a `Writing` and a `MemoryShelf` as a `Shelving`.
 #![tactic(auto)]
 
 mod calls;
+mod memory_shelf;
+mod shelf;
 mod sink;
 mod source;
 #[cfg(test)]
 mod tests;
 
+pub use memory_shelf::MemoryShelf;
+pub use shelf::{Loaded, Shelf, ShelfError};
 pub use sink::{MemorySink, Sink, SinkError};
 pub use source::{Failed, MemorySource, Source};
 
 fn shared<T: Send + Sync>() {}
 
-/// That threads may share sources and sinks in memory is proved by this function.
+/// That threads may share sources, sinks and shelves in memory is proved by this function.
 pub fn are_shared() {
     shared::<MemorySource>();
     shared::<MemorySink>();
     shared::<Failed>();
     shared::<SinkError>();
+    shared::<MemoryShelf>();
+    shared::<Loaded>();
+    shared::<ShelfError>();
 }

@@ -1,6 +1,9 @@
-//! Which calls of sources and sinks in memory fail, called through the traits.
+//! Which calls of sources, sinks and shelves in memory fail, called through the traits, and the files of a shelf.
 
-use super::{Failed, MemorySink, MemorySource, Sink, SinkError, Source};
+use super::{
+    Failed, Loaded, MemoryShelf, MemorySink, MemorySource, Shelf, ShelfError, Sink, SinkError,
+    Source,
+};
 use mt_base::List;
 use std::alloc::Global;
 use std::test::Fail;
@@ -65,6 +68,80 @@ fn listed_writes_fail(rt: HostRuntime) -> Result<(), Fail> {
         let answers = four_writes(alloc, &mut sink)?;
         assert_eq!(rt; answers.as_slice(), want.as_bytes());
         assert_eq!(rt; sink.written().as_slice(), held.as_bytes());
+    }
+    Ok(())
+}
+
+/// What a load with a limit of three bytes answers: the file, `-` where there is none, `+` where it is too long.
+fn loaded<F: Shelf>(alloc: Global, shelf: &mut F, name: &str) -> Result<Vec<u8>, Fail> {
+    let mut out = List::from_vec(b"old".to_vec(alloc)?);
+    Ok(match shelf.load(alloc, name, 3, &mut out) {
+        Ok(Loaded::Whole) => out.into_vec(),
+        Ok(Loaded::Absent) => b"-".to_vec(alloc)?,
+        Ok(Loaded::TooLong) => b"+".to_vec(alloc)?,
+        Err(error) => letter(error).to_vec(alloc)?,
+    })
+}
+
+/// What a store answers: `.` where it was done.
+fn stored<F: Shelf>(shelf: &mut F, name: &str, bytes: &str) -> &'static [u8] {
+    match shelf.store(name, bytes.as_bytes()) {
+        Ok(()) => b".",
+        Err(error) => letter(error),
+    }
+}
+
+/// `!` for a failure, `?` for want of memory.
+fn letter(error: ShelfError) -> &'static [u8] {
+    match error {
+        ShelfError::Failed => b"!",
+        ShelfError::NoMemory => b"?",
+    }
+}
+
+/// What a store and three loads answer, each followed by a comma.
+fn four_calls<F: Shelf>(alloc: Global, shelf: &mut F) -> Result<Vec<u8>, Fail> {
+    let mut answers = stored(shelf, "a", "abc").to_vec(alloc)?;
+    for name in ["a", "b", "c"] {
+        answers.push(b',')?;
+        let answer = loaded(alloc, shelf, name)?;
+        answers.extend_from_slice(&answer)?;
+    }
+    Ok(answers)
+}
+
+#[test]
+fn listed_calls_of_a_shelf_fail(rt: HostRuntime) -> Result<(), Fail> {
+    let alloc = rt.alloc();
+    for (fails, want) in [
+        (&[][..], ".,abc,+,-"),
+        (&[1][..], "!,-,+,-"),
+        (&[2][..], ".,!,+,-"),
+        (&[3][..], ".,abc,!,-"),
+        (&[4, 1, 9][..], "!,-,+,!"),
+    ] {
+        let mut shelf = MemoryShelf::new(alloc, List::from_vec(fails.to_vec(alloc)?));
+        assert!(rt; shelf.put("b", b"defg").is_ok());
+        let answers = four_calls(alloc, &mut shelf)?;
+        assert_eq!(rt; answers.as_slice(), want.as_bytes());
+    }
+    Ok(())
+}
+
+#[test]
+fn files_are_put(rt: HostRuntime) -> Result<(), Fail> {
+    let alloc = rt.alloc();
+    let mut shelf = MemoryShelf::new(alloc, List::from_vec(vec![in alloc; 1u32]?));
+    assert!(rt; shelf.put("a", b"first").is_ok());
+    assert!(rt; shelf.put("b", b"").is_ok());
+    assert!(rt; shelf.put("a", b"second").is_ok());
+    for (name, want) in [
+        ("a", Some(&b"second"[..])),
+        ("b", Some(&b""[..])),
+        ("c", None),
+    ] {
+        let held = shelf.file(name).map(|file| file.as_slice());
+        assert!(rt; held == want);
     }
     Ok(())
 }
