@@ -213,17 +213,18 @@ declares name statement = gives Attribute 0 statement && pointwise nat_eq statem
 abbrev pub repeats : Statement → Statement → Bool
 repeats statement earlier = gives statement.keyword statement.place earlier && (not (is_declaring statement.keyword) || pointwise nat_eq earlier.value statement.value)
 
--- The attribute of this name is declared by this statement. Later declarations of the name declare nothing, nor does one that leaves its block open at the file's end.
-pub record IsDeclared (file : File) (name : List ℕ) (statement : Statement) : Type 0 where
+-- The attribute of this name is declared by this statement. Later declarations of the name declare nothing, nor does one in the line of the number `unclosed`,
+-- the file's last where that leaves a block open.
+pub record IsDeclared (statements : List Statement) (unclosed : ℕ) (name : List ℕ) (statement : Statement) : Type 0 where
   pub named : IsIdentifier name
-  pub first : find (declares name) (statements_of file.lines) ≡ Some statement
-  pub closed : statement.line ≢ file.unclosed
+  pub first : find (declares name) statements ≡ Some statement
+  pub closed : statement.line ≢ unclosed
 
 -- A base attribute has no DYNAMIC in its block.
-pub record IsBaseName (file : File) (name : List ℕ) : Type 0 where
+pub record IsBaseName (statements : List Statement) (unclosed : ℕ) (name : List ℕ) : Type 0 where
   pub statement : Statement
-  pub declared : IsDeclared file name statement
-  pub plain : list_any (gives Dynamic statement.line) (statements_of file.lines) ≡ false
+  pub declared : IsDeclared statements unclosed name statement
+  pub plain : list_any (gives Dynamic statement.line) statements ≡ false
 
 -- ## Causes
 
@@ -253,18 +254,19 @@ pub data IsRefused (line : Line) : Type 0 where
   TooDeep : (key value : List ℕ) → form_of line.text ≡ Entry key value true → 2 ≤ length line.blocks → IsRefused line
 
 -- why the names that a statement uses are refused
-pub data IsBaseless (file : File) (statement : Statement) : Type 0 where
-  NoBase : statement.keyword ≡ FromAttr → list_any (gives Dynamic statement.place) (statements_of file.lines) ≡ true → (IsBaseName file statement.value → ⊥) → IsBaseless file statement
-  NoFromAttr : statement.keyword ≡ Dynamic → list_any (gives FromAttr statement.place) (statements_of file.lines) ≡ false → IsBaseless file statement
-  NoDeclared : statement.keyword ≡ WsAttr → ((declared : Statement) → IsDeclared file statement.value declared → ⊥) → IsBaseless file statement
+pub data IsBaseless (statements : List Statement) (unclosed : ℕ) (statement : Statement) : Type 0 where
+  NoBase : statement.keyword ≡ FromAttr → list_any (gives Dynamic statement.place) statements ≡ true → (IsBaseName statements unclosed statement.value → ⊥) →
+      IsBaseless statements unclosed statement
+  NoFromAttr : statement.keyword ≡ Dynamic → list_any (gives FromAttr statement.place) statements ≡ false → IsBaseless statements unclosed statement
+  NoSuchName : statement.keyword ≡ WsAttr → ((declared : Statement) → IsDeclared statements unclosed statement.value declared → ⊥) → IsBaseless statements unclosed statement
 
--- a cause that a statement has, among those of the earlier lines and those of the whole file; here mappers have these names
-abbrev pub IsCause : List (List ℕ) → File → List Statement → Statement → RegistryCause → Type 0
-IsCause mappers file earlier statement Syntax = ⊥
-IsCause mappers file earlier statement Twice = list_any (repeats statement) earlier ≡ true
-IsCause mappers file earlier statement TooMany = (is_declaring statement.keyword ≡ true) × (16 ≤ count_by (gives statement.keyword statement.place) earlier)
-IsCause mappers file earlier statement UnknownMapper = (statement.keyword ≡ Dynamic) × ((1024 < length statement.value) ⊎ (Contains mappers statement.value → ⊥))
-IsCause mappers file earlier statement UnknownBase = IsBaseless file statement
+-- a cause that a statement has, among the earlier statements and all of them; the mappers at hand have these names
+abbrev pub IsCause : List (List ℕ) → List Statement → ℕ → List Statement → Statement → RegistryCause → Type 0
+IsCause mappers statements unclosed earlier statement Syntax = ⊥
+IsCause mappers statements unclosed earlier statement Twice = list_any (repeats statement) earlier ≡ true
+IsCause mappers statements unclosed earlier statement TooMany = (is_declaring statement.keyword ≡ true) × (16 ≤ count_by (gives statement.keyword statement.place) earlier)
+IsCause mappers statements unclosed earlier statement UnknownMapper = (statement.keyword ≡ Dynamic) × ((1024 < length statement.value) ⊎ (Contains mappers statement.value → ⊥))
+IsCause mappers statements unclosed earlier statement UnknownBase = IsBaseless statements unclosed statement
 
 -- the line of a file behind these
 pub record LineAt (file : File) (earlier : List Line) (line : Line) : Type 0 where
@@ -276,7 +278,7 @@ pub data HasCause (mappers : List (List ℕ)) (file : File) (number : ℕ) (caus
   Refused : (earlier : List Line) (line : Line) → LineAt file earlier line → line.number ≡ number → cause ≡ Syntax → IsRefused line → HasCause mappers file number cause
   Unclosed : 0 < number → file.unclosed ≡ number → cause ≡ Syntax → HasCause mappers file number cause
   Misstated : (earlier : List Line) (line : Line) (statement : Statement) → LineAt file earlier line → line.number ≡ number → statement_of line ≡ Some statement →
-      IsCause mappers file (statements_of earlier) statement cause → HasCause mappers file number cause
+      IsCause mappers (statements_of file.lines) file.unclosed (statements_of earlier) statement cause → HasCause mappers file number cause
 
 -- no line of the file has a cause
 abbrev pub IsFaultless : List (List ℕ) → File → Type 0
