@@ -13,10 +13,10 @@ abbrev pub is_blank : ℕ → Bool
 is_blank b = b == 32 || b == 9
 
 -- the bytes without the blanks at their end, and without those at both ends
-unfoldable pub trimmed_end : List ℕ → List ℕ
+abbrev pub trimmed_end : List ℕ → List ℕ
 trimmed_end bytes = take (length bytes - suffix_len is_blank bytes) bytes
 
-unfoldable pub trimmed : List ℕ → List ℕ
+abbrev pub trimmed : List ℕ → List ℕ
 trimmed bytes = trimmed_end (drop (prefix_len is_blank bytes) bytes)
 
 -- What a line is by itself: one that is skipped, a closing brace, a key and its value, behind which a brace may open a block, or none of these.
@@ -27,23 +27,23 @@ pub data Form : Type 0 where
   Formless : Form
 
 -- a text in quotes: two at least, one at either end
-unfoldable pub is_quoted : List ℕ → Bool
+abbrev pub is_quoted : List ℕ → Bool
 is_quoted text = nat_le 2 (length text) && (slice_index text 0 == 34 && slice_index text (length text - 1) == 34)
 
 -- what a written value stands for: one pair of quotes round it is dropped
-unfoldable pub unquoted : List ℕ → List ℕ
+abbrev pub unquoted : List ℕ → List ℕ
 unquoted text = if is_quoted text then slice_range text 1 (length text - 1) else text
 
 -- an opening brace stands last, behind a blank
-unfoldable pub opens_block : List ℕ → Bool
+abbrev pub opens_block : List ℕ → Bool
 opens_block rest = nat_le 2 (length rest) && (slice_index rest (length rest - 1) == 123 && is_blank (slice_index rest (length rest - 2)))
 
 -- a key and the written value, which is not empty
-unfoldable pub valued : List ℕ → List ℕ → Bool → Form
+abbrev pub valued : List ℕ → List ℕ → Bool → Form
 valued key text opens = if length text == 0 then Formless else Entry key (unquoted text) opens
 
 -- a key and what follows it
-unfoldable pub entry : List ℕ → List ℕ → Form
+abbrev pub entry : List ℕ → List ℕ → Form
 entry key rest = if opens_block rest then valued key (trimmed (take (length rest - 1) rest)) true else valued key (trimmed rest) false
 
 -- how many letters, digits and `_` the bytes begin with
@@ -51,11 +51,11 @@ abbrev pub key_len : List ℕ → ℕ
 key_len bytes = prefix_len is_identifier_byte bytes
 
 -- a key is one or more such bytes, and a blank follows it
-unfoldable pub keyed : List ℕ → Form
-keyed bare = if nat_lt 0 (key_len bare) && is_blank (slice_index bare (key_len bare)) then entry (take (key_len bare) bare) (drop (key_len bare) bare) else Formless
+abbrev pub keyed : List ℕ → Form
+keyed bare = if nat_lt 0 (key_len bare) && (nat_lt (key_len bare) (length bare) && is_blank (slice_index bare (key_len bare))) then entry (take (key_len bare) bare) (drop (key_len bare) bare) else Formless
 
 -- a line without the blanks at both ends: what is empty or begins with `#` is skipped
-unfoldable pub bare_form : List ℕ → Form
+abbrev pub bare_form : List ℕ → Form
 bare_form bare =
     if length bare == 0 || slice_index bare 0 == 35 then Skipped
     else if pointwise nat_eq bare (125 ∷ []) then Closing

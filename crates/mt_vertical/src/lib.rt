@@ -4,6 +4,8 @@
 ghost use Rattle.std.specs.Prelude.{◌≡◌, ◌↔◌, ℕ, IfOk, IsTrue};
 ghost use Rattle.mt_file_spec.specs.Vertical.{FirstNotPlain, IsPlain, Vertical, plain_token};
 
+mod registry;
+
 use mt_base::{Lines, List, NoMemory, Text, Token, Value};
 use std::alloc::Global;
 use std::str;

@@ -1,0 +1,2 @@
+pub mod SeenBlock
+pub mod SeenForm

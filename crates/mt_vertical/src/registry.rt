@@ -1,0 +1,4 @@
+//! How a registry is read from its file.
+
+mod block;
+mod form;
