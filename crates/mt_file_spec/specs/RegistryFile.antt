@@ -118,6 +118,14 @@ effect_in number block keyword = None
 abbrev pub innermost : List Block → Option Block
 innermost open_blocks = slice_get open_blocks (length open_blocks - 1)
 
+-- whether a line stands in a block, and in one that is not ignored
+abbrev pub is_heeded : Option Block → Bool
+is_heeded None = false
+is_heeded (Some Ignored) = false
+is_heeded (Some (OfAttribute line)) = true
+is_heeded (Some (OfStructure line)) = true
+is_heeded (Some Other) = true
+
 abbrev pub effect_if : ℕ → Option Block → Option Keyword → Option Effect
 effect_if number block None = None
 effect_if number block (Some keyword) = effect_in number block keyword
@@ -248,8 +256,7 @@ pub data IsRefused (line : Line) : Type 0 where
   NoForm : form_of line.text ≡ Formless → IsRefused line
   NotUtf8 : form_of line.text ≢ Skipped → (IsUtf8 line.text → ⊥) → IsRefused line
   NoName : (statement : Statement) → statement_of line ≡ Some statement → is_declaring statement.keyword ≡ true → (IsIdentifier statement.value → ⊥) → IsRefused line
-  Stray : (key value : List ℕ) (opens : Bool) (block : Block) → form_of line.text ≡ Entry key value opens → keyword_of key ≡ Some Structure →
-      innermost line.blocks ≡ Some block → block ≢ Ignored → IsRefused line
+  Stray : (key value : List ℕ) (opens : Bool) → form_of line.text ≡ Entry key value opens → keyword_of key ≡ Some Structure → is_heeded (innermost line.blocks) ≡ true → IsRefused line
   Unopened : form_of line.text ≡ Closing → line.blocks ≡ [] → IsRefused line
   TooDeep : (key value : List ℕ) → form_of line.text ≡ Entry key value true → 2 ≤ length line.blocks → IsRefused line
 

@@ -1,2 +1,4 @@
+pub mod Misstated
+pub mod ReadLines
 pub mod SeenBlock
 pub mod SeenForm

@@ -1,4 +1,6 @@
 //! How a registry is read from its file.
 
 mod block;
+mod causes;
 mod form;
+mod lines;

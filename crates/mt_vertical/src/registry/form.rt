@@ -147,7 +147,8 @@ fn is_blank(b: u8) -> bool
     b == b' ' || b == b'\t'
 }
 
-fn is_in_identifier(b: u8) -> bool
+/// A letter, a digit or `_`.
+pub fn is_in_identifier(b: u8) -> bool
     ensures { result ≡ is_identifier_byte b }
 {
     b.is_ascii_alphanumeric() || b == b'_'
