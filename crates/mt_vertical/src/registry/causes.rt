@@ -1,6 +1,6 @@
 //! Why what lines state is refused.
 
-ghost use Rattle.std.specs.Prelude.{◌≡◌, ◌<◌, ◌≤◌, ◌⊎◌, ◌×◌, ◌↔◌, true, IsTrue, List as Items, length, take, nat_eq, option_map, option_copied, MatchOption, slice_index_or};
+ghost use Rattle.std.specs.Prelude.{◌≡◌, ◌<◌, ◌≤◌, ◌⊎◌, ◌↔◌, true, IsTrue, List as Items, length, take, nat_eq, option_map, option_copied, MatchOption, slice_index_or};
 ghost use Rattle.std.specs.List.{list_any, count_by, find, Contains};
 ghost use Rattle.mt_file_spec.specs.RegistryFile as spec;
 ghost use Rattle.mt_file_spec.specs.RegistryFile.{IsCause, IsBaseless, IsBaseName, IsDeclared};
