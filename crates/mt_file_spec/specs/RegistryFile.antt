@@ -299,51 +299,45 @@ pub record FirstRegistryFault (mappers : List (List ℕ)) (bytes : List ℕ) (li
 
 -- ## What is read
 
--- the number of the attribute of this name
-abbrev pub number_of : List ℕ → List (List ℕ) → ℕ
-number_of name names = position_or_len (λ other. pointwise nat_eq other name) names
-
--- the statements that declare attributes, structures, and the attributes of a structure
+-- the statements that declare attributes, and those that declare structures
 abbrev pub attributes_of : List Statement → List Statement
 attributes_of statements = filter (gives Attribute 0) statements
 
 abbrev pub structures_of : List Statement → List Statement
 structures_of statements = filter (gives Structure 0) statements
 
-abbrev pub values_of : List Statement → List (List ℕ)
-values_of statements = map (λ statement. statement.value) statements
+-- the number of the attribute of this name
+abbrev pub number_of : List ℕ → List Statement → ℕ
+number_of name statements = position_or_len (λ statement. pointwise nat_eq statement.value name) (attributes_of statements)
 
--- the base of an attribute that has a mapper is the one that FROMATTR names in its block
-abbrev pub mapped : List Statement → List ℕ → Option Statement → Option Statement → Attr
-mapped statements name None base = record { name = name; base = None; mapper = [] }
-mapped statements name (Some mapper) None = record { name = name; base = None; mapper = mapper.value }
-mapped statements name (Some mapper) (Some base) = record { name = name; base = Some (number_of base.value (values_of (attributes_of statements))); mapper = mapper.value }
+-- the attribute of this name, which has a mapper and a base where there are a DYNAMIC and a FROMATTR
+abbrev pub attr_with : List Statement → List ℕ → Option Statement → Option Statement → Attr
+attr_with statements name None base = record { name = name; base = None; mapper = [] }
+attr_with statements name (Some mapper) None = record { name = name; base = None; mapper = mapper.value }
+attr_with statements name (Some mapper) (Some base) = record { name = name; base = Some (number_of base.value statements); mapper = mapper.value }
 
 -- the attribute that a statement declares
 abbrev pub attr_of : List Statement → Statement → Attr
-attr_of statements statement = mapped statements statement.value (find (gives Dynamic statement.line) statements) (find (gives FromAttr statement.line) statements)
+attr_of statements statement = attr_with statements statement.value (find (gives Dynamic statement.line) statements) (find (gives FromAttr statement.line) statements)
 
 -- the structure that a statement declares
 abbrev pub kind_of : List Statement → Statement → Kind
-kind_of statements statement = record { name = statement.value; attrs = values_of (filter (gives Attribute statement.line) statements) }
+kind_of statements statement = record { name = statement.value; attrs = map (λ attribute. attribute.value) (filter (gives Attribute statement.line) statements) }
 
 -- without WSATTR sketches count `lempos` where it is declared, else `lemma` where it is declared, else the first attribute
-abbrev pub usual_ws_attr : List (List ℕ) → ℕ
-usual_ws_attr names =
-    if list_any (λ name. pointwise nat_eq name (codes "lempos")) names then number_of (codes "lempos") names
-    else if list_any (λ name. pointwise nat_eq name (codes "lemma")) names then number_of (codes "lemma") names
+abbrev pub ws_attr_with : List Statement → Option Statement → ℕ
+ws_attr_with statements (Some statement) = number_of statement.value statements
+ws_attr_with statements None =
+    if list_any (declares (codes "lempos")) statements then number_of (codes "lempos") statements
+    else if list_any (declares (codes "lemma")) statements then number_of (codes "lemma") statements
     else 0
-
-abbrev pub ws_attr_of : List (List ℕ) → Option Statement → ℕ
-ws_attr_of names None = usual_ws_attr names
-ws_attr_of names (Some statement) = number_of statement.value names
 
 -- the registry that statements declare, in their order
 abbrev pub registry_of : List Statement → Registry
 registry_of statements = record {
   attrs = map (attr_of statements) (attributes_of statements);
   kinds = map (kind_of statements) (structures_of statements);
-  ws_attr = ws_attr_of (values_of (attributes_of statements)) (find (gives WsAttr 0) statements);
+  ws_attr = ws_attr_with statements (find (gives WsAttr 0) statements);
 }
 
 -- The file is read as this registry: no line has a cause, and a base attribute is declared.

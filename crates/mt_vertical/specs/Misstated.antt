@@ -1,8 +1,9 @@
 -- What contracts see of the causes of statements, and which is the first.
-use Rattle.std.specs.Prelude.{ℕ, ◌≡◌, ◌≤◌, nat_lt, if◌then◌else◌, List, ◌∷◌, ◌++◌, Option, None, Some, option_map}
+use Rattle.std.specs.Prelude.{ℕ, ◌≡◌, ◌≤◌, ◌==◌, nat_lt, if◌then◌else◌, List, ◌∷◌, ◌++◌, Option, None, Some, option_map}
 use Rattle.mt_file_spec.specs.RegistryFile.{RegistryCause, Syntax, Twice, TooMany, UnknownMapper, UnknownBase, rank, Statement, IsCause}
 use Rattle.mt_vertical.specs.declared.registry.causes.Cause.{Cause as RustCause}
 use Rattle.mt_vertical.specs.declared.registry.causes.Cause.TheVariants as cause
+use Rattle.mt_vertical.specs.declared.registry.faults.Fault.{Fault}
 
 abbrev pub cause_seen : RustCause → RegistryCause
 cause_seen cause.Syntax = Syntax
@@ -27,6 +28,9 @@ pub record Blamed : Type 0 where
   pub line : ℕ
   pub cause : RegistryCause
 
+abbrev pub blamed_seen : Fault → Blamed
+blamed_seen fault = record { line = fault.line; cause = cause_seen fault.cause }
+
 -- the first statement that has a cause is in this line, and this is the first of its causes
 pub record FirstBlamed (mappers : List (List ℕ)) (all : List Statement) (unclosed : ℕ) (blamed : Blamed) : Type 0 where
   pub earlier : List Statement
@@ -40,3 +44,21 @@ pub record FirstBlamed (mappers : List (List ℕ)) (all : List Statement) (unclo
 abbrev pub IsFirstBlamed : List (List ℕ) → List Statement → ℕ → Option Blamed → Type 0
 IsFirstBlamed mappers all unclosed None = AreUnblamed mappers all unclosed all
 IsFirstBlamed mappers all unclosed (Some blamed) = FirstBlamed mappers all unclosed blamed
+
+-- the line that is refused by its form and place, or as the last where a block is left open
+abbrev pub syntax_of : Option ℕ → ℕ → Option ℕ
+syntax_of (Some line) unclosed = Some line
+syntax_of None unclosed = if unclosed == 0 then None else Some unclosed
+
+-- the earlier of the two, or in one line the syntax
+abbrev pub first_of : Option Blamed → Option ℕ → Option Blamed
+first_of None None = None
+first_of (Some blamed) None = Some blamed
+first_of None (Some line) = Some (record { line = line; cause = Syntax })
+first_of (Some blamed) (Some line) = if nat_lt blamed.line line then Some blamed else Some (record { line = line; cause = Syntax })
+
+-- of what is refused in the lines that were read, this is the first
+pub record IsFirstOf (mappers : List (List ℕ)) (all : List Statement) (refused : Option ℕ) (unclosed : ℕ) (result : Option Blamed) : Type 0 where
+  pub blamed : Option Blamed
+  pub statement : IsFirstBlamed mappers all unclosed blamed
+  pub is : result ≡ first_of blamed (syntax_of refused unclosed)

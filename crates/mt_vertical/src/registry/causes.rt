@@ -165,7 +165,7 @@ fn first_declaration<'a, 'b>(all: &'a [Statement<'b>], name: &[u8]) -> Option<&'
 }
 
 /// Whether a statement is the declaration of an attribute of this name.
-fn declares(name: &[u8], statement: &Statement) -> bool
+pub fn declares(name: &[u8], statement: &Statement) -> bool
     ensures { result ≡ spec.declares name.now statement.now }
 {
     gives(Keyword::Attribute, 0, statement) && statement.value() == name
