@@ -1,5 +1,6 @@
 pub mod Misstated
 pub mod ReadLines
+pub mod RegistryErrors
 pub mod SeenBlock
 pub mod SeenForm
 pub mod Sound

@@ -159,6 +159,12 @@ fn number_of(all: &[Statement], name: &[u8]) -> usize
     ensures value { result ≡ spec.number_of name.now all.now }
     ensures few { result ≤ length (spec.attributes_of all.now) }
 {
+    attributes_before(all, name)
+}
+
+fn attributes_before(all: &[Statement], name: &[u8]) -> usize
+    ensures { result ≡ spec.number_of name.now all.now }
+{
     all.iter()
         .filter(|statement| gives(Keyword::Attribute, 0, statement))
         .take_while(|statement| statement.value() != name)
