@@ -5,3 +5,4 @@ pub mod RegistryBuild
 pub mod Splits
 pub mod Blamed
 pub mod RegistryFaults
+pub mod RegistryGroups

@@ -279,3 +279,6 @@ refusal_of mappers bytes (error.UnknownMapper line) b e f = let same : b ≡ rec
 refusal_of mappers bytes (error.UnknownBase line) b e f = let same : b ≡ record { line = line; cause = UnknownBase } = cc in subst (λ (x : Blamed). FirstRegistryFault mappers bytes x.line x.cause) same f
 refusal_of mappers bytes error.NoAttribute b e f = cc
 refusal_of mappers bytes error.NoMemory b e f = tt
+
+pub same_unclosed : (bytes : List ℕ) (open_blocks : List Block) (number : ℕ) → open_blocks ≡ behind_all 1 [] (lines bytes) → number ≡ length (lines bytes) → unclosed_at open_blocks number ≡ (file_of bytes).unclosed
+same_unclosed bytes open_blocks number b n = ap (λ bs. unclosed_at bs number) b ∙ ap (λ k. unclosed_at (behind_all 1 [] (lines bytes)) k) n
