@@ -6,3 +6,4 @@ pub mod Splits
 pub mod Blamed
 pub mod RegistryFaults
 pub mod RegistryGroups
+pub mod RegistryValid

@@ -13,7 +13,7 @@ use Rattle.std.proofs.lemmas.List.Quantifiers.{all_pairs_push}
 use Rattle.std.proofs.lemmas.Slice.Eq.{bytes_eq-Decides}
 use Rattle.mt_text_spec.specs.Words.{IsIdentifier, is_identifier_start, is_identifier_byte}
 use Rattle.mt_text_spec.specs.Registries.{AreDistinct}
-use Rattle.mt_file_spec.specs.RegistryFile.{Keyword, Attribute, Structure, Dynamic, FromAttr, WsAttr, Statement, Line, File, LineAt, RegistryCause, Syntax, Twice, TooMany, UnknownMapper, UnknownBase, IsRefused, NoName, IsCause, HasCause, Refused, Misstated, IsFaultless, statement_of, statements_of, same_keyword, is_declaring, gives, repeats, attributes_of}
+use Rattle.mt_file_spec.specs.RegistryFile.{Keyword, Attribute, Structure, Dynamic, FromAttr, WsAttr, Statement, Line, File, LineAt, RegistryCause, Syntax, Twice, TooMany, UnknownMapper, UnknownBase, IsRefused, NoName, IsCause, HasCause, Refused, Misstated, IsFaultless, statement_of, statements_of, same_keyword, is_declaring, gives, repeats, attributes_of, file_of}
 use Rattle.mt_vertical.specs.Misstated.{AreUnblamed}
 use Rattle.mt_vertical.specs.Sound.{IsNamed, IsKnown, IsSound}
 use Rattle.mt_vertical.proofs.Splits.{no_split, All-split}
@@ -225,3 +225,6 @@ sound mappers file none =
       known = known_statements mappers (statements_of file.lines) file.unclosed u;
       few = omega (arith, g.few, length-map (attributes_of (statements_of file.lines)) (λ x. x.value));
     }
+
+pub sound_of : (mappers : List (List ℕ)) (bytes : List ℕ) (statements : List Statement) → IsFaultless mappers (file_of bytes) → statements ≡ statements_of (file_of bytes).lines → IsSound mappers statements
+sound_of mappers bytes statements none e = subst (λ (x : List Statement). IsSound mappers x) (sym e) (sound mappers (file_of bytes) none)

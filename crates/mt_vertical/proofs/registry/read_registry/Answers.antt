@@ -1,5 +1,12 @@
-use Rattle.mt_vertical.proofs.RegistryGroups.{sound}
+use Rattle.std.proofs.Common.{subst, sym, ◌∙◌, List, arith}
+use Rattle.mt_file_spec.specs.RegistryFile.{Statement}
+use Rattle.mt_vertical.specs.Sound.{IsSound}
+use Rattle.mt_vertical.proofs.RegistryGroups.{sound_of}
+use Rattle.mt_vertical.proofs.RegistryValid.{valid_read}
 use Rattle.mt_vertical.proofs.registry.read_registry.Goals as goal
 
 pub registry_of-requires : goal.registry_of-requires
-registry_of-requires c = ?
+registry_of-requires c = sound_of c.args.mappers.now c.args.bytes.now _ c.in_ok-reader.ensures.faultless (c.as_slice.ensures.value ∙ c.in_ok-reader.ensures.read)
+
+pub returns-clause-valid : goal.returns-clause-valid
+returns-clause-valid c = valid_read c.args.mappers.now c.args.bytes.now _ _ _ c.in_ok-reader.ensures.faultless (c.as_slice.ensures.value ∙ c.in_ok-reader.ensures.read) c.in_ok-registry.ensures c.base_count.ensures (omega (arith, c.if-base_count-eq0.false))
