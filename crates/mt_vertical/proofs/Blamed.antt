@@ -31,7 +31,11 @@ cut_at all i s l = grind (arith, common_steps)
 pub first_blamed_at : (mappers : List (List ℕ)) (all : List Statement) (unclosed i : ℕ) (s : Statement) (blamed : Blamed) → i < length all → s ≡ slice_index_or all i s → AreUnblamed mappers all unclosed (take i all) →
     s.line ≡ blamed.line → IsFirstCause mappers all unclosed (take i all) s (Some blamed.cause) → FirstBlamed mappers all unclosed blamed
 first_blamed_at mappers all unclosed i s blamed l e before line here = record {
-  earlier = take i all; statement = s; later = drop (i + 1) all;
+  earlier = take i all;
+  statement = s;
+  later = drop (i + 1) all;
   are = cut_at all i s l ∙ ap (λ t. take i all ++ t ∷ drop (i + 1) all) (sym e);
-  before = before; line = line; here = here;
+  before = before;
+  line = line;
+  here = here;
 }

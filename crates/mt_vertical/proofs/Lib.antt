@@ -7,3 +7,4 @@ pub mod Blamed
 pub mod RegistryFaults
 pub mod RegistryGroups
 pub mod RegistryValid
+pub mod RegistryLaws

@@ -51,4 +51,4 @@ pub mapper_is_known : (mappers : List (List ℕ)) (all : List Statement) (place 
 mapper_is_known mappers all place statement name sound e is =
     let f = found (gives Dynamic place) all statement e in
     subst (λ (n : List ℕ). Contains mappers n) (sym is)
-        (find_all (IsKnown mappers) (gives Dynamic place) all statement sound.known e (is_dynamic statement.keyword (statement.place == place) f.passes))
+    (find_all (IsKnown mappers) (gives Dynamic place) all statement sound.known e (is_dynamic statement.keyword (statement.place == place) f.passes))

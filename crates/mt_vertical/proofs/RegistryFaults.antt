@@ -61,7 +61,11 @@ pub record StatedAt (all : List Line) (before : List Statement) (s : Statement) 
 one_line_earlier : (line : Line) (all : List Line) (before : List Statement) (s : Statement) (o : Option Statement) → statement_of line ≡ o → StatedAt all before s →
     StatedAt (line ∷ all) (cons_option o before) s
 one_line_earlier line all before s o is a = record {
-  earlier = line ∷ a.earlier; line = a.line; later = a.later; are = ap (λ ls. line ∷ ls) a.are; states = a.states;
+  earlier = line ∷ a.earlier;
+  line = a.line;
+  later = a.later;
+  are = ap (λ ls. line ∷ ls) a.are;
+  states = a.states;
   others = ap (λ p. cons_option p (statements_of a.earlier)) is ∙ ap (λ ss. cons_option o ss) a.others;
 }
 
@@ -137,14 +141,16 @@ blamed_order mappers all unclosed b e line r s other n f a are is has (inl less)
 blamed_order mappers all unclosed b e line r s other n f a are is has (inr more) =
     let at_b : a.line.number ≡ b.line = sym (statement_line a.line f.statement a.states) ∙ f.line in
     let na = n.number a.earlier a.line a.later a.are in
-    let nl = n.number e line r are in
-    (omega arith, λ same.
-        let lengths : length a.earlier ≡ length e = omega arith in
-        let w = same_split a.earlier a.line a.later e line r (sym a.are ∙ are) lengths in
-        let ends : f.statement ≡ s = (let h : Some f.statement ≡ Some s = sym a.states ∙ ap statement_of w.1 ∙ is in cc) in
-        f.here.1 other
-            (subst (λ (t : Statement). IsCause mappers (statements_of all) unclosed f.earlier t other) (sym ends)
-            (subst (λ (x : List Statement). IsCause mappers (statements_of all) unclosed x s other) (sym (ap statements_of w.0) ∙ a.others) has)))
+    let nl = n.number e line r are in (
+      omega arith,
+      λ same.
+          let lengths : length a.earlier ≡ length e = omega arith in
+          let w = same_split a.earlier a.line a.later e line r (sym a.are ∙ are) lengths in
+          let ends : f.statement ≡ s = (let h : Some f.statement ≡ Some s = sym a.states ∙ ap statement_of w.1 ∙ is in cc) in
+          f.here.1 other
+          (subst (λ (t : Statement). IsCause mappers (statements_of all) unclosed f.earlier t other) (sym ends)
+          (subst (λ (x : List Statement). IsCause mappers (statements_of all) unclosed x s other) (sym (ap statements_of w.0) ∙ a.others) has)),
+    )
 
 -- what states something with a cause is not before the first
 after_first_blamed : (mappers : List (List ℕ)) (all : List Line) (unclosed : ℕ) (blamed : Option Blamed) (e : List Line) (line : Line) (r : List Line) (s : Statement) (other : RegistryCause) → AreNumbered all →
@@ -192,7 +198,7 @@ blamed_here : (mappers : List (List ℕ)) (file : File) (b : Blamed) → FirstBl
 blamed_here mappers file b f =
     let a = stated_at file.lines f.earlier f.statement f.later f.are in
     Misstated a.earlier a.line f.statement (record { later = a.later; are = a.are }) (sym (statement_line a.line f.statement a.states) ∙ f.line) a.states
-        (subst (λ (x : List Statement). IsCause mappers (statements_of file.lines) file.unclosed x f.statement b.cause) (sym a.others) f.here.0)
+    (subst (λ (x : List Statement). IsCause mappers (statements_of file.lines) file.unclosed x f.statement b.cause) (sym a.others) f.here.0)
 
 -- the first of what was found is the first fault, and where nothing was found there is none
 abbrev pub IsFirstFault : List (List ℕ) → List ℕ → Option Blamed → Type 0
@@ -262,14 +268,15 @@ pub first_fault_of : (mappers : List (List ℕ)) (bytes : List ℕ) (statements 
     IsFirstOf mappers statements refused unclosed result → IsFirstFault mappers bytes result
 first_fault_of mappers bytes statements refused unclosed result s r u f =
     let blame : IsFirstBlamed mappers (statements_of (file_of bytes).lines) (file_of bytes).unclosed f.blamed =
-        subst (λ (x : List Statement). IsFirstBlamed mappers x (file_of bytes).unclosed f.blamed) s (subst (λ (n : ℕ). IsFirstBlamed mappers statements n f.blamed) u f.statement) in
+    subst (λ (x : List Statement). IsFirstBlamed mappers x (file_of bytes).unclosed f.blamed) s (subst (λ (n : ℕ). IsFirstBlamed mappers statements n f.blamed) u f.statement) in
     let k : IsRead mappers (file_of bytes) refused f.blamed = record {
       numbers = record { number = λ e line rest are. numbered 1 [] (lines bytes) e line rest are };
       last = λ some. unclosed_last (behind_all 1 [] (lines bytes)) (length (lines bytes)) some ∙ sym (length-lines_from 1 [] (lines bytes));
-      first = r; blame = blame;
+      first = r;
+      blame = blame;
     } in
     subst (λ (o : Option Blamed). IsFirstFault mappers bytes o) (sym (f.is ∙ ap (λ n. first_of f.blamed (syntax_of refused n)) u))
-        (by_found mappers bytes refused f.blamed (syntax_of refused (file_of bytes).unclosed) k refl)
+    (by_found mappers bytes refused f.blamed (syntax_of refused (file_of bytes).unclosed) k refl)
 
 pub refusal_of : (mappers : List (List ℕ)) (bytes : List ℕ) (e : RegistryError) (b : Blamed) → error_seen e ≡ Some b → FirstRegistryFault mappers bytes b.line b.cause → IsRefusal mappers bytes e
 refusal_of mappers bytes (error.Syntax line) b e f = let same : b ≡ record { line = line; cause = Syntax } = cc in subst (λ (x : Blamed). FirstRegistryFault mappers bytes x.line x.cause) same f

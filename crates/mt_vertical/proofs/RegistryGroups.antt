@@ -83,13 +83,13 @@ identifier_stable bs unless = record {
 -- a name is in a list, or is not
 contains_stable : (ms : List (List ℕ)) (v : List ℕ) → ((Contains ms v → ⊥) → ⊥) → Contains ms v
 contains_stable ms v unless = elim (cases_Bool (list_any (λ m. pointwise nat_eq m v) ms)) [
-    inl w ↦
-        (let a = Any-from_list_any (λ m. pointwise nat_eq m v) ms w in
-        let same : a.1 ≡ v = (bytes_eq-Decides a.1 v).0 a.4 in
-        (a.0, a.2, subst (λ (y : List ℕ). get_or ms a.0 y ≡ y) same a.3))
+  | inl w ↦
+      (let a = Any-from_list_any (λ m. pointwise nat_eq m v) ms w in
+      let same : a.1 ≡ v = (bytes_eq-Decides a.1 v).0 a.4 in
+      (a.0, a.2, subst (λ (y : List ℕ). get_or ms a.0 y ≡ y) same a.3))
   | inr w ↦ absurd (unless (λ c.
-        let there : list_any (λ m. pointwise nat_eq m v) ms ≡ true = list_any_at (λ m. pointwise nat_eq m v) ms c.0 v c.1 ((bytes_eq-Decides (get_or ms c.0 v) v).1 c.2) in cc))
-  ]
+      let there : list_any (λ m. pointwise nat_eq m v) ms ≡ true = list_any_at (λ m. pointwise nat_eq m v) ms c.0 v c.1 ((bytes_eq-Decides (get_or ms c.0 v) v).1 c.2) in cc))
+]
 
 -- ## Statements that no cause blames
 
@@ -97,7 +97,7 @@ pub unblamed : (mappers : List (List ℕ)) (file : File) → IsFaultless mappers
 unblamed mappers file none earlier s later cause are has =
     let a = stated_at file.lines earlier s later are in
     none a.line.number cause (Misstated a.earlier a.line s (record { later = a.later; are = a.are }) refl a.states
-        (subst (λ (x : List Statement). IsCause mappers (statements_of file.lines) file.unclosed x s cause) (sym a.others) has))
+    (subst (λ (x : List Statement). IsCause mappers (statements_of file.lines) file.unclosed x s cause) (sym a.others) has))
 
 nothing_more : {A : Type 0} (xs : List A) → xs ++ [] ≡ xs
 nothing_more [] = refl
@@ -108,13 +108,13 @@ pub All-from_splits : {A : Type 0} (P : A → Type 0) (front rest : List A) → 
 All-from_splits P front [] all each = subst (λ (xs : List _). All P xs) (sym (nothing_more front)) all
 All-from_splits {A} P front (x ∷ rest) all each =
     subst (λ (xs : List A). All P xs) (append_assoc front (x ∷ []) rest)
-        (All-from_splits P (front ++ x ∷ []) rest (All-push P front x all (each front x rest refl)) (λ e y r same. each e y r (sym (append_assoc front (x ∷ []) rest) ∙ same)))
+    (All-from_splits P (front ++ x ∷ []) rest (All-push P front x all (each front x rest refl)) (λ e y r same. each e y r (sym (append_assoc front (x ∷ []) rest) ∙ same)))
 
 pub named_statements : (mappers : List (List ℕ)) (file : File) → IsFaultless mappers file → All IsNamed (statements_of file.lines)
 named_statements mappers file none = All-from_splits IsNamed [] (statements_of file.lines) (All-nil IsNamed) (λ e s r are declaring.
     identifier_stable s.value (λ bad.
-        let a = stated_at file.lines e s r are in
-        none a.line.number Syntax (Refused a.earlier a.line (record { later = a.later; are = a.are }) refl refl (NoName s a.states declaring bad))))
+    let a = stated_at file.lines e s r are in
+    none a.line.number Syntax (Refused a.earlier a.line (record { later = a.later; are = a.are }) refl refl (NoName s a.states declaring bad))))
 
 pub known_statements : (mappers : List (List ℕ)) (all : List Statement) (unclosed : ℕ) → AreUnblamed mappers all unclosed all → All (IsKnown mappers) all
 known_statements mappers all unclosed none = All-from_splits (IsKnown mappers) [] all (All-nil (IsKnown mappers)) (λ e s r are dynamic.
@@ -164,7 +164,7 @@ one_differs : (keyword : Keyword) (place : ℕ) (t : Statement) (front : List St
     (list_any (repeats s) (t ∷ front) ≡ true → ⊥) → All (λ name. name ≢ s.value) (names_in keyword place front) → All (λ name. name ≢ s.value) (map (λ x. x.value) (cond b (t ∷ filter (gives keyword place) front) (filter (gives keyword place) front)))
 one_differs keyword place t front s true is declaring given none rest =
     All-cons (λ name. name ≢ s.value) t.value (names_in keyword place front)
-        (λ same. none (or_left (repeats s t) (list_any (repeats s) front) (repeats_same keyword place s t given is same))) rest
+    (λ same. none (or_left (repeats s t) (list_any (repeats s) front) (repeats_same keyword place s t given is same))) rest
 one_differs keyword place t front s false is declaring given none rest = rest
 
 -- no name of these is that of a statement that is not given twice
@@ -173,7 +173,7 @@ differs : (keyword : Keyword) (place : ℕ) (front : List Statement) (s : Statem
 differs keyword place [] s declaring given none = All-nil (λ name. name ≢ s.value)
 differs keyword place (t ∷ front) s declaring given none =
     one_differs keyword place t front s (gives keyword place t) refl declaring given none
-        (differs keyword place front s declaring given (λ e. none (or_right (repeats s t) (list_any (repeats s) front) e)))
+    (differs keyword place front s declaring given (λ e. none (or_right (repeats s t) (list_any (repeats s) front) e)))
 
 -- one statement more
 next_group : (keyword : Keyword) (place : ℕ) (front : List Statement) (s : Statement) (b : Bool) → gives keyword place s ≡ b → is_declaring keyword ≡ true → IsNamed s →
@@ -186,7 +186,7 @@ next_group keyword place front s true is declaring named none few group =
     let also : is_declaring s.keyword ≡ true = ap is_declaring (sym k) ∙ declaring in
     let names : List (List ℕ) = names_in keyword place front in
     let count : length names ≡ count_by (gives s.keyword s.place) front =
-        length-map (filter (gives keyword place) front) (λ x. x.value) ∙ length-filter (gives keyword place) front ∙ ap (λ x. count_by (gives x place) front) k ∙ ap (λ n. count_by (gives s.keyword n) front) (sym p) in
+    length-map (filter (gives keyword place) front) (λ x. x.value) ∙ length-filter (gives keyword place) front ∙ ap (λ x. count_by (gives x place) front) k ∙ ap (λ n. count_by (gives s.keyword n) front) (sym p) in
     let low : length names < 16 = less_stable (length names) 16 (λ n. few (also, omega arith)) in
     let differ : All (λ name. name ≢ s.value) names = differs keyword place front s declaring is none in
     record {
@@ -200,10 +200,10 @@ groups : (mappers : List (List ℕ)) (all : List Statement) (unclosed : ℕ) (ke
 groups mappers all unclosed keyword place front [] are declaring none named group = subst (λ (x : List Statement). IsGroup (names_in keyword place x)) (sym (nothing_more front)) group
 groups mappers all unclosed keyword place front (s ∷ rest) are declaring none named group =
     subst (λ (x : List Statement). IsGroup (names_in keyword place x)) (append_assoc front (s ∷ []) rest)
-        (groups mappers all unclosed keyword place (front ++ s ∷ []) rest (append_assoc front (s ∷ []) rest ∙ are) declaring none named
-            (subst IsGroup (sym (map-push (λ x. x.value) (gives keyword place) front s (gives keyword place s) refl))
-                (next_group keyword place front s (gives keyword place s) refl declaring (All-split IsNamed all front s rest (sym are) named)
-                    (λ e. none front s rest Twice (sym are) e) (λ e. none front s rest TooMany (sym are) e) group)))
+    (groups mappers all unclosed keyword place (front ++ s ∷ []) rest (append_assoc front (s ∷ []) rest ∙ are) declaring none named
+    (subst IsGroup (sym (map-push (λ x. x.value) (gives keyword place) front s (gives keyword place s) refl))
+    (next_group keyword place front s (gives keyword place s) refl declaring (All-split IsNamed all front s rest (sym are) named)
+    (λ e. none front s rest Twice (sym are) e) (λ e. none front s rest TooMany (sym are) e) group)))
 
 none_pairs : AreDistinct []
 none_pairs i j d less within = absurd (omega arith)

@@ -80,9 +80,10 @@ pub entry_placed : (number : ℕ) (text : List ℕ) (open_blocks : List Block) (
     AtEntry number text open_blocks key value opens effect → (IsBadValue text value effect → ⊥) →
     (IsTrue b → IsBadPlace open_blocks key opens) × (IsBadPlace open_blocks key opens → IsTrue b) →
     (IsTrue b → IsRefused (line_at number text open_blocks)) × (IsRefused (line_at number text open_blocks) → IsTrue b)
-entry_placed number text open_blocks key value opens effect b a good says =
-    (λ holds. bad_place number text open_blocks key value opens effect a (says.0 holds),
-     λ refused. by_place open_blocks text key value opens effect b good says.1 (why_refused number text open_blocks key value opens effect a refused))
+entry_placed number text open_blocks key value opens effect b a good says = (
+  λ holds. bad_place number text open_blocks key value opens effect a (says.0 holds),
+  λ refused. by_place open_blocks text key value opens effect b good says.1 (why_refused number text open_blocks key value opens effect a refused),
+)
 
 -- ## What is noted
 
@@ -122,13 +123,24 @@ then_more statements (Some one) more = sym (append_assoc statements (one ∷ [])
 one_later : (line : Line) (rest : List Line) (refused : Option ℕ) → (IsRefused line → ⊥) → IsFirstRefused rest refused → IsFirstRefused (line ∷ rest) refused
 one_later line rest None fine f = All-cons (λ l. IsRefused l → ⊥) line rest fine f
 one_later line rest (Some number) fine f = record {
-  before = line ∷ f.before; line = f.line; after = f.after; are = ap (λ ls. line ∷ ls) f.are;
-  none = All-cons (λ l. IsRefused l → ⊥) line f.before fine f.none; here = f.here; place = f.place;
+  before = line ∷ f.before;
+  line = f.line;
+  after = f.after;
+  are = ap (λ ls. line ∷ ls) f.are;
+  none = All-cons (λ l. IsRefused l → ⊥) line f.before fine f.none;
+  here = f.here;
+  place = f.place;
 }
 
 at_front : (line : Line) (rest : List Line) (number : ℕ) → (number ≡ line.number) × IsRefused line → IsFirstRefused (line ∷ rest) (Some number)
 at_front line rest number n = record {
-  before = []; line = line; after = rest; are = refl; none = All-nil (λ l. IsRefused l → ⊥); here = n.1; place = sym n.0;
+  before = [];
+  line = line;
+  after = rest;
+  are = refl;
+  none = All-nil (λ l. IsRefused l → ⊥);
+  here = n.1;
+  place = sym n.0;
 }
 
 next_first : (all rest : List Line) (line : Line) (old new : Option ℕ) → StillFirst all (line ∷ rest) old → Refuses line old new → StillFirst all rest new

@@ -88,7 +88,7 @@ lone_dynamic mappers all unclosed place d none e lacks =
     let f = found (gives Dynamic place) all d e in
     let p : d.place ≡ place = given_place Dynamic place d f.passes in
     none f.before d f.after UnknownBase f.are (NoFromAttr (sym (given_keyword Dynamic place d f.passes))
-        (ap (λ n. list_any (gives FromAttr n) all) p ∙ any_is_found (gives FromAttr place) all ∙ ap is_some lacks))
+    (ap (λ n. list_any (gives FromAttr n) all) p ∙ any_is_found (gives FromAttr place) all ∙ ap is_some lacks))
 
 based_on : (mappers : List (List ℕ)) (all : List Statement) (unclosed : ℕ) (place : ℕ) (d f : Statement) → AreUnblamed mappers all unclosed all → find (gives Dynamic place) all ≡ Some d →
     find (gives FromAttr place) all ≡ Some f → IsBaseAt (map (attr_of all) (attributes_of all)) (number_of f.value all)
@@ -96,7 +96,7 @@ based_on mappers all unclosed place d f none e has =
     let g = found (gives FromAttr place) all f has in
     let p : f.place ≡ place = given_place FromAttr place f g.passes in
     let b = base_there all unclosed f.value (find (declares f.value) all) refl (λ bad. none g.before f g.after UnknownBase g.are
-        (NoBase (sym (given_keyword FromAttr place f g.passes)) (ap (λ n. list_any (gives Dynamic n) all) p ∙ any_is_found (gives Dynamic place) all ∙ ap is_some e) bad)) in
+    (NoBase (sym (given_keyword FromAttr place f g.passes)) (ap (λ n. list_any (gives Dynamic n) all) p ∙ any_is_found (gives Dynamic place) all ∙ ap is_some e) bad)) in
     base_at all f.value b.0 b.1 b.2
 
 valid_with : (mappers : List (List ℕ)) (all : List Statement) (unclosed : ℕ) (s : Statement) (d f : Option Statement) → AreUnblamed mappers all unclosed all → IsIdentifier s.value →
@@ -173,14 +173,14 @@ valid mappers file faultless some =
       some = some;
       attrs = All-map (ValidAttr (map (attr_of all) (attributes_of all))) (attr_of all) (attributes_of all)
           (each_declared Attribute 0 all (λ s. ValidAttr (map (attr_of all) (attributes_of all)) (attr_of all s)) named
-              (λ s given name. valid_with mappers all file.unclosed s (find (gives Dynamic s.line) all) (find (gives FromAttr s.line) all) none (name (ap is_declaring (sym (given_keyword Attribute 0 s given)))) refl refl));
+          (λ s given name. valid_with mappers all file.unclosed s (find (gives Dynamic s.line) all) (find (gives FromAttr s.line) all) none (name (ap is_declaring (sym (given_keyword Attribute 0 s given)))) refl refl));
       distinct = subst (λ (ns : List (List ℕ)). AreDistinct ns) (sym (names_of_attrs all (attributes_of all))) attrs.distinct;
       few_kinds = omega (arith, kinds.few);
       kinds = All-map ValidKind (kind_of all) (structures_of all)
           (each_declared Structure 0 all (λ s. ValidKind (kind_of all s)) named
-              (λ s given name.
-                  let inner : IsGroup (names_in Attribute s.line all) = group_in mappers all file.unclosed Attribute s.line refl none named in
-                  record { named = name (ap is_declaring (sym (given_keyword Structure 0 s given))); few = inner.few; each = inner.each; distinct = inner.distinct }));
+          (λ s given name.
+          let inner : IsGroup (names_in Attribute s.line all) = group_in mappers all file.unclosed Attribute s.line refl none named in
+          record { named = name (ap is_declaring (sym (given_keyword Structure 0 s given))); few = inner.few; each = inner.each; distinct = inner.distinct }));
       distinct_kinds = subst (λ (ns : List (List ℕ)). AreDistinct ns) (sym (names_of_kinds all (structures_of all))) kinds.distinct;
       sketched = let low = ws_low mappers all file.unclosed (find (gives WsAttr 0) all) none refl (omega arith) in omega (arith, low);
     }

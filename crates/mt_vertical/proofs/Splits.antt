@@ -18,8 +18,8 @@ snoc_split {A} (y ∷ front) s (z ∷ e) x r same =
     let tail : front ++ s ∷ [] ≡ e ++ x ∷ r = cc in
     let P : Type 0 = ((z ∷ e ≡ y ∷ front) × (x ≡ s)) ⊎ ((l : List A) × (y ∷ front ≡ z ∷ e ++ x ∷ l)) in
     elim (snoc_split front s e x r tail) as (λ _. P) [
-      inl w ↦ inl (ap (λ (t : List A). z ∷ t) w.0 ∙ ap (λ t. t ∷ front) (sym head), w.1)
-    | inr w ↦ inr (w.0, ap (λ t. t ∷ front) head ∙ ap (λ (t : List A). z ∷ t) w.1)
+      | inl w ↦ inl (ap (λ (t : List A). z ∷ t) w.0 ∙ ap (λ t. t ∷ front) (sym head), w.1)
+      | inr w ↦ inr (w.0, ap (λ t. t ∷ front) head ∙ ap (λ (t : List A). z ∷ t) w.1)
     ]
 
 -- of two splits of one list the later one begins with the earlier one

@@ -13,7 +13,10 @@ mod build;
 mod causes;
 mod faults;
 mod form;
+pub mod laws;
 mod lines;
+#[cfg(test)]
+mod tests;
 
 use causes::Cause;
 use faults::{Fault, first_fault};
@@ -62,6 +65,7 @@ pub fn read_registry(
     ensures read { IfOk result (λ registry. ReadsRegistry mappers.now bytes.now registry) }
     ensures valid { IfOk result (λ registry. ValidRegistry registry) }
     ensures refused { IfErr result (λ error. IsRefusal mappers.now bytes.now error) }
+    ensures only { (registry : registries.Registry) → ReadsRegistry mappers.now bytes.now registry → IfErr result (λ error. error ≡ RegistryError.NoMemory) }
 {
     let reader = read_file(alloc, bytes, mappers)?;
     let registry = build::registry_of(alloc, mappers, reader.statements.as_slice())?;

@@ -29,11 +29,7 @@ pub fn registry_of(
 }
 
 /// The attributes in their order.
-fn attrs_of(
-    alloc: Global,
-    mappers: &List<Value>,
-    all: &[Statement],
-) -> Result<List<Attr>, NoMemory>
+fn attrs_of(alloc: Global, mappers: &List<Value>, all: &[Statement]) -> Result<List<Attr>, NoMemory>
     requires { IsSound mappers.now all.now }
     ensures { IfOk result (λ attrs. attrs ≡ map (spec.attr_of all.now) (spec.attributes_of all.now)) }
 {
@@ -172,7 +168,11 @@ fn attributes_before(all: &[Statement], name: &[u8]) -> usize
 }
 
 /// The first statement that gives this keyword in this place.
-fn find<'a, 'b>(keyword: Keyword, place: usize, all: &'a [Statement<'b>]) -> Option<&'a Statement<'b>>
+fn find<'a, 'b>(
+    keyword: Keyword,
+    place: usize,
+    all: &'a [Statement<'b>],
+) -> Option<&'a Statement<'b>>
     ensures { option_copied result ≡ find (spec.gives (keyword_seen keyword) place) all.now }
 {
     all.iter()
