@@ -1,1 +1,2 @@
+pub mod RegistryFile
 pub mod Vertical

@@ -1,2 +1,10 @@
 pub mod Reading
 pub mod Words
+pub mod RegistryLines
+pub mod RegistryBuild
+pub mod Splits
+pub mod Blamed
+pub mod RegistryFaults
+pub mod RegistryGroups
+pub mod RegistryValid
+pub mod RegistryLaws

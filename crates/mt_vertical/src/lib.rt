@@ -4,7 +4,11 @@
 ghost use Rattle.std.specs.Prelude.{◌≡◌, ◌↔◌, ℕ, IfOk, IsTrue};
 ghost use Rattle.mt_file_spec.specs.Vertical.{FirstNotPlain, IsPlain, Vertical, plain_token};
 
+mod registry;
+
 use mt_base::{Lines, List, NoMemory, Text, Token, Value};
+pub use registry::laws::{one_answer, one_fault, one_registry};
+pub use registry::{RegistryError, read_registry};
 use std::alloc::Global;
 use std::str;
 

@@ -1,0 +1,18 @@
+//! Laws of the definitions that `read_registry` keeps: that they say one thing of each file.
+
+ghost use Rattle.mt_vertical.specs.RegistryLaws.{AreApart, OneFault, OneRegistry};
+
+/// No file is read as two registries: this function proves it, and does nothing.
+pub fn one_registry()
+    ensures { OneRegistry }
+{}
+
+/// No file has two first faults: this function proves it, and does nothing.
+pub fn one_fault()
+    ensures { OneFault }
+{}
+
+/// No file has two kinds of answer: this function proves it, and does nothing.
+pub fn one_answer()
+    ensures { AreApart }
+{}
