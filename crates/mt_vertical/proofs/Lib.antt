@@ -1,2 +1,5 @@
-pub mod Reading
-pub mod Words
+pub mod AttrForms
+pub mod Runs
+pub mod Steps
+pub mod TagSpelling
+pub mod TagValues

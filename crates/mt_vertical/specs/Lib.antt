@@ -1,0 +1,2 @@
+pub mod TagForms
+pub mod TagReading

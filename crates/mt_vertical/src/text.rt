@@ -1,0 +1,4 @@
+//! How a text is read from its vertical.
+
+mod attrs;
+mod tags;
