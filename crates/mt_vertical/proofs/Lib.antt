@@ -1,5 +1,13 @@
 pub mod AttrForms
+pub mod Columns
+pub mod Filled
+pub mod Instances
+pub mod LineKinds
+pub mod LineRoles
+pub mod OneRole
 pub mod Runs
+pub mod SoFar
 pub mod Steps
 pub mod TagSpelling
 pub mod TagValues
+pub mod Utf8

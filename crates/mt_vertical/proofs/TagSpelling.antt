@@ -1,5 +1,6 @@
 -- Tags: each is read exactly where it is spelled.
 use Rattle.std.proofs.Common.{◌≡◌, ℕ, suc, ◌+◌, ◌<◌, ◌≤◌, inl, inr, Bool, true, false, ◌==◌, ◌&&◌, ◌||◌, if◌then◌else◌, List, [], ◌∷◌, ◌++◌, length, take, drop, get_or, codes, refl, sym, ◌∙◌, ap, subst, arith, append_assoc, Option, None, Some}
+use Rattle.std.specs.Str.{IsUtf8}
 use Rattle.std.specs.List.{All, AllPass, prefix_len, list_all}
 use Rattle.std.proofs.lemmas.Bool.{and_parts, eqb-true}
 use Rattle.std.proofs.lemmas.Grind.{common_steps}
@@ -9,7 +10,8 @@ use Rattle.memchr.specs.Find.{Nowhere, Passes, is_byte}
 use Rattle.mt_text_spec.specs.Words.{is_identifier_start}
 use Rattle.mt_file_spec.specs.Tags.{is_space, AreSpaces, differs, IsTag, is_tag_name_byte, IsTagName, TagAttr, SpellsAttrs, Tag, OpeningTag, EmptyTag, ClosingTag, SpellsBegin, SpellsEnd, Spells}
 use Rattle.mt_vertical.specs.TagReading.{◌>>=◌, past, starts, behind, identifier_at, tag_name_at, attr_at, ReadsAttrs, ends, tail_at}
-use Rattle.mt_vertical.specs.TagForms.{ReadsBegin, ReadsEnd, begin_form, tag_of, IsBegin, IsEnd, BehindTag, IsFound}
+use Rattle.mt_vertical.specs.TagForms.{ReadsBegin, ReadsEnd, begin_form, tag_of, IsBegin, IsEnd, KeepsText, BehindTag, IsFound}
+use Rattle.mt_vertical.proofs.Utf8.{utf8_behind, behind_name}
 use Rattle.mt_vertical.specs.declared.text.tags.Form.{Form}
 use Rattle.mt_vertical.proofs.Steps.{then_some, if_some, same, none_some, some_once, all_tail, all_head, front_of, take_front, left_of, parts, front_passes, some_pass}
 use Rattle.mt_vertical.proofs.AttrForms.{behind_gives, behind_back, starts_of, first_taken, attrs_once, attrs_give, attrs_back}
@@ -165,7 +167,7 @@ stops_name : (bytes : List ℕ) (attrs : List TagAttr) (inner rest : List ℕ) (
 stops_name bytes [] inner rest empty s r = rw r.1 (ends_name inner rest empty s)
 stops_name bytes (attr ∷ attrs) inner rest empty s r = spaces_no_name bytes (starts_attr bytes attr r.0 r.1)
 
-rest_same : (a b : ℕ) (xs ys : List ℕ) → a ∷ xs ≡ b ∷ ys → xs ≡ ys
+pub rest_same : (a b : ℕ) (xs ys : List ℕ) → a ∷ xs ≡ b ∷ ys → xs ≡ ys
 rest_same a b xs ys e = cc
 
 head_same : (a b : ℕ) (xs ys : List ℕ) → a ∷ xs ≡ b ∷ ys → a ≡ b
@@ -213,15 +215,20 @@ end_back bytes name s =
 
 -- ## What stands behind `<`
 
+region_text : (bytes name region : List ℕ) (attrs : List TagAttr) (empty : Bool) → ReadsBegin bytes name region attrs empty → IsUtf8 (60 ∷ bytes) → IsUtf8 region
+region_text bytes name region attrs empty r u =
+    let n = name_gives bytes (name, region) r.named in
+    behind_name name region n.1.each (subst IsUtf8 n.0 (utf8_behind [] bytes 60 (omega arith) u))
+
 begin_spells : (bytes name region : List ℕ) (attrs : List TagAttr) (empty : Bool) → ReadsBegin bytes name region attrs empty → BehindTag bytes (begin_form empty) name region
-begin_spells bytes name region attrs false r = record { attrs = attrs; inside = (r.tail, r.read); spelled = begin_gives bytes name region attrs false r }
-begin_spells bytes name region attrs true r = record { attrs = attrs; inside = (r.tail, r.read); spelled = begin_gives bytes name region attrs true r }
+begin_spells bytes name region attrs false r = record { attrs = attrs; inside = (r.tail, r.read); text = region_text bytes name region attrs false r; spelled = begin_gives bytes name region attrs false r }
+begin_spells bytes name region attrs true r = record { attrs = attrs; inside = (r.tail, r.read); text = region_text bytes name region attrs true r; spelled = begin_gives bytes name region attrs true r }
 
 pub begin_found : (bytes name region : List ℕ) (f : Form) → IsBegin bytes f name region → BehindTag bytes f name region
 begin_found bytes name region f i = rw i.formed (begin_spells bytes name region i.attrs i.empty i.read)
 
 pub end_found : (bytes rest name region : List ℕ) (f : Form) → behind 47 bytes ≡ Some rest → IsEnd rest f name → BehindTag bytes f name region
-end_found bytes rest name region f b i = rw (i.formed, behind_gives 47 bytes rest b) (record { attrs = []; inside = tt; spelled = end_gives rest name i.read })
+end_found bytes rest name region f b i = rw (i.formed, behind_gives 47 bytes rest b) (record { attrs = []; inside = tt; text = tt; spelled = end_gives rest name i.read })
 
 no_slash : (name rest : List ℕ) (b : ℕ) (bytes : List ℕ) → IsTagName name → b ∷ bytes ≡ name ++ rest → b ≡ 47 → ⊥
 no_slash [] rest b bytes n e f = let some : 0 < 0 = n.some in absurd (omega arith)
@@ -230,7 +237,7 @@ no_slash (x ∷ name) rest b bytes n e f =
     let is : x ≡ 47 = sym (head_same b x bytes (name ++ rest) e) ∙ f in
     let bad : is_identifier_start 47 ≡ true = sym (ap is_identifier_start is) ∙ first in cc
 
-begin_no_slash : (bytes rest name : List ℕ) (attrs : List TagAttr) (close : List ℕ) → behind 47 bytes ≡ Some rest → SpellsBegin close (60 ∷ bytes) name attrs → ⊥
+pub begin_no_slash : (bytes rest name : List ℕ) (attrs : List TagAttr) (close : List ℕ) → behind 47 bytes ≡ Some rest → SpellsBegin close (60 ∷ bytes) name attrs → ⊥
 begin_no_slash bytes rest name attrs close b s =
     let are : bytes ≡ name ++ (s.spelling ++ (s.inner ++ (close ++ s.behind))) =
         rest_same 60 60 bytes (name ++ s.spelling ++ s.inner ++ close ++ s.behind) s.are ∙ sym (joined name s.spelling s.inner close s.behind) in
@@ -281,10 +288,14 @@ no_tab line none = All-from_get_or (λ b. differs 9 b ≡ true) line 0 (λ k l. 
 a_tab : (line : List ℕ) (k : ℕ) → k < length line → Passes (is_byte 9) line k → AllPass (differs 9) line → ⊥
 a_tab line k l e all = let h : differs 9 (get_or line k 0) ≡ true = all k 0 l in grind (arith, h, e)
 
+keeps_text : (f : Form) (line bytes region : List ℕ) → line ≡ 60 ∷ bytes → KeepsText f (60 ∷ bytes) region → KeepsText f line region
+keeps_text f line bytes region e h = rw e h
+
 pub found_line : (line bytes name region : List ℕ) (f : Form) → behind 60 line ≡ Some bytes → AllPass (differs 9) line → BehindTag bytes f name region → IsFound line f name region
 found_line line bytes name region f b t h = record {
   attrs = h.attrs;
   inside = h.inside;
+  text = keeps_text f line bytes region (behind_gives 60 line bytes b) h.text;
   spelled = record { spelled = let P : List ℕ → Type 0 = λ l. Spells l (tag_of f name h.attrs) in subst P (sym (behind_gives 60 line bytes b)) h.spelled; untabbed = t };
 }
 

@@ -1,2 +1,4 @@
+pub mod Lines
+pub mod Readers
 pub mod TagForms
 pub mod TagReading

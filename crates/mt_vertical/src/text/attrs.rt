@@ -1,6 +1,6 @@
 //! The attributes in a tag, by where their parts lie in the line.
 
-ghost use Rattle.std.specs.Prelude.{◌≡◌, ℕ, ◌<◌, ◌≤◌, List, length, option_map};
+ghost use Rattle.std.specs.Prelude.{◌≡◌, ℕ, ◌≤◌, List, length, option_map, IsUtf8};
 ghost use Rattle.std.specs.List.{prefix_len, list_all};
 ghost use Rattle.mt_text_spec.specs.Words.{is_identifier_start, is_identifier_byte};
 ghost use Rattle.mt_file_spec.specs.Tags.{TagAttr as SpelledAttr, is_space, is_quote, differs, tag_value};
@@ -17,7 +17,7 @@ pub struct TagAttr<'a> {
 }
 
 /// The value of an attribute that is not there.
-const MISSING: &[u8] = b"===NONE===";
+pub const MISSING: &[u8] = b"===NONE===";
 
 /// How many spaces stand in front.
 fn spaces_len(bytes: &[u8]) -> usize
@@ -145,7 +145,8 @@ pub fn past_attrs(bytes: &[u8]) -> &[u8]
 
 /// The value of the first of these attributes that has this name.
 pub fn value_of<'a>(bytes: &'a [u8], name: &[u8]) -> &'a [u8]
-    ensures { (attrs : List SpelledAttr) (rest : List ℕ) → ReadsAttrs bytes.now attrs rest → result.now ≡ tag_value attrs name.now }
+    ensures value { (attrs : List SpelledAttr) (rest : List ℕ) → ReadsAttrs bytes.now attrs rest → result.now ≡ tag_value attrs name.now }
+    ensures text { IsUtf8 bytes.now → IsUtf8 result.now }
 {
     let mut rest = bytes;
     while let Some((attr, others)) = read_attr(rest) {
