@@ -3,6 +3,7 @@ use Rattle.std.proofs.Common.{◌≡◌, ℕ, zero, suc, ◌+◌, ◌-◌, ◌<�
 use Rattle.std.specs.List.{Any}
 use Rattle.std.proofs.lemmas.Grind.{common_steps}
 use Rattle.std.proofs.lemmas.List.Elements.{All-push}
+use Rattle.mt_text_spec.specs.Texts.{StructSpan}
 use Rattle.mt_file_spec.specs.VerticalLines.{first_columns}
 use Rattle.mt_file_spec.specs.Vertical.{value_limit}
 use Rattle.mt_vertical.specs.Readers.{AreShort, HasLong, Kept, ended, gathered}
@@ -65,3 +66,23 @@ pub kept_push : (count i : ℕ) (values new : List (List ℕ)) (value column : L
     values ++ first_columns (count - i) old ≡ whole → ((n : ℕ) → first_columns (n + 1) old ≡ column ∷ first_columns n left) → new ++ first_columns (count - (i + 1)) left ≡ whole
 kept_push count i values new value column old left whole pushed same l e step =
     ap (λ vs. vs ++ first_columns (count - (i + 1)) left) (pushed ∙ ap (λ v. values ++ v ∷ []) same) ∙ column_kept count i values column old left whole l e step
+
+pub copy_push : {A : Type 0} → (n : ℕ) (old new : List A) (x y : A) → new ≡ old ++ y ∷ [] → old ≡ replicate n x → y ≡ x → new ≡ replicate (n + 1) x
+copy_push n old new x y pushed e same = pushed ∙ ap (λ z. old ++ z ∷ []) same ∙ ap (λ xs. xs ++ x ∷ []) e ∙ replicate_push n x
+
+-- ## A step over a list
+
+pub moved : {A : Type 0} → (xs ys old all : List A) (x : A) → old ≡ x ∷ ys → xs ++ old ≡ all → (xs ++ x ∷ []) ++ ys ≡ all
+moved xs ys old all x e is = append_assoc xs (x ∷ []) ys ∙ ap (λ r. xs ++ r) (sym e) ∙ is
+
+snoc_len : {A : Type 0} → (xs : List A) (x : A) → length (xs ++ x ∷ []) ≡ length xs + 1
+snoc_len xs x = grind (arith, common_steps)
+
+pub counted : {A : Type 0} → (xs : List A) (x : A) (n : ℕ) → n ≡ length xs → n + 1 ≡ length (xs ++ x ∷ [])
+counted xs x n e = omega (arith, e, snoc_len xs x)
+
+pub gathered_more : (place kind : ℕ) (yielded : List Kept) (k : Kept) (all last new : List StructSpan) → new ≡ all ++ last → last ≡ (ended kind place k).done → kind ≡ length yielded →
+    all ≡ gathered 0 place yielded → new ≡ gathered 0 place (yielded ++ k ∷ [])
+gathered_more place kind yielded k all last new n l e a =
+    let here : kind ≡ 0 + length yielded = omega (arith, e) in
+    n ∙ ap (λ xs. xs ++ last) a ∙ ap (λ xs. gathered 0 place yielded ++ xs) (l ∙ ap (λ m. (ended m place k).done) here) ∙ sym (gathered_push 0 place yielded k)

@@ -1,6 +1,6 @@
 -- What a line that was read does, and that it has no cause.
-use Rattle.std.proofs.Common.{◌≡◌, ◌≢◌, ℕ, zero, suc, ◌+◌, ◌<◌, ◌≤◌, inl, inr, Bool, true, false, ◌==◌, if◌then◌else◌, List, [], ◌∷◌, ◌++◌, length, map, get_or, refl, sym, ◌∙◌, ap, subst, arith, Option, None, Some}
-use Rattle.std.specs.Prelude.{slice_get}
+use Rattle.std.proofs.Common.{◌≡◌, ◌≢◌, ℕ, zero, suc, ◌+◌, ◌<◌, ◌≤◌, inl, inr, Bool, true, false, ◌==◌, if◌then◌else◌, List, [], ◌∷◌, ◌++◌, length, map, get_or, refl, sym, ◌∙◌, ap, subst, arith, Option, None, Some, Result, Ok, Err}
+use Rattle.std.specs.Prelude.{slice_get, OnOk}
 use Rattle.std.specs.List.{All, Any, Contains}
 use Rattle.std.specs.Str.{IsUtf8}
 use Rattle.std.proofs.lemmas.Grind.{common_steps}
@@ -249,7 +249,7 @@ only_utf8 registry place line u ValueTooLong low h = absurd (omega arith)
 pub token_many : (registry : Registry) (state : State) (line : List ℕ) → IsSound registry state → IsUtf8 line → ¬ IsSkipped line → ((tag : Tag) → ¬ IsTag line tag) → length state.tokens ≡ text_limit →
     Refuses registry state line TooManyTokens
 token_many registry state line s u k t full = record {
-  has = (full, record { values = first_columns state.columns (columns line) }, token_plays registry state line s k t);
+  has = (full, (record { values = first_columns state.columns (columns line) }, token_plays registry state line s k t));
   first = only_utf8 registry (length state.tokens) line u;
 }
 
@@ -263,3 +263,9 @@ nothing_before registry place line other low h = absurd (omega arith)
 
 pub not_text : (registry : Registry) (state : State) (line : List ℕ) → ¬ IsUtf8 line → Refuses registry state line NotUtf8
 not_text registry state line n = record { has = n; first = nothing_before registry (length state.tokens) line }
+
+pub token_ok : {T E : Type 0} → (result : Result T E) (registry : Registry) (state new : State) (line : List ℕ) → ValidRegistry registry → IsSound registry state → IsUtf8 line → ¬ IsSkipped line →
+    ((tag : Tag) → ¬ IsTag line tag) → OnOk result (Did state (token_role state.columns line) new) → OnOk result (AreShort (first_columns state.columns (columns line))) →
+    OnOk result (length state.tokens ≢ text_limit) → OnOk result (HasReadLine registry state line new)
+token_ok (Ok x) registry state new line v s u k t d short few = token_read registry state new line v s u k t d short few
+token_ok (Err e) registry state new line v s u k t d short few = tt

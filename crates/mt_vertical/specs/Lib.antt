@@ -1,4 +1,5 @@
 pub mod Lines
 pub mod Readers
+pub mod Refusals
 pub mod TagForms
 pub mod TagReading

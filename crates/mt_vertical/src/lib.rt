@@ -3,4 +3,4 @@
 
 mod text;
 
-
+pub use text::{TextError, read_text};
