@@ -11,3 +11,5 @@ pub mod Steps
 pub mod TagSpelling
 pub mod TagValues
 pub mod Utf8
+pub mod ValidTexts
+pub mod Values

@@ -11,7 +11,7 @@ use Rattle.mt_vertical.proofs.Instances.{Stands_for, none_yet, line_more, gather
 
 -- ## Places
 
-place_after : ℕ → List Role → ℕ
+unfoldable pub place_after : ℕ → List Role → ℕ
 place_after place [] = place
 place_after place (role ∷ roles) = place_after (past place role) roles
 
@@ -25,7 +25,7 @@ past_is place (Gives token) = omega arith
 length-both : (xs ys : List Token) → length (xs ++ ys) ≡ length xs + length ys
 length-both xs ys = grind (arith, common_steps)
 
-place_is : (place : ℕ) (roles : List Role) → place_after place roles ≡ place + length (tokens_in roles)
+pub place_is : (place : ℕ) (roles : List Role) → place_after place roles ≡ place + length (tokens_in roles)
 unfolding place_after
 place_is place [] = omega arith
 place_is place (role ∷ roles) =
@@ -35,7 +35,7 @@ place_is place (role ∷ roles) =
 
 -- ## Lines
 
-abbrev IsGood : Registry → ℕ → List ℕ → Type 0
+abbrev pub IsGood : Registry → ℕ → List ℕ → Type 0
 IsGood registry place line = (cause : TextCause) → ¬ HasCause registry place line cause
 
 read_more : (registry : Registry) (place : ℕ) (ls : List (List ℕ)) (roles : List Role) (line : List ℕ) (role : Role) → AreRead registry place ls roles → Plays registry line role →

@@ -1,5 +1,4 @@
 pub mod Lines
 pub mod Readers
-pub mod Refusals
 pub mod TagForms
 pub mod TagReading

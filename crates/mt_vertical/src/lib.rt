@@ -3,4 +3,3 @@
 
 mod text;
 
-pub use text::{TextError, read_text};
