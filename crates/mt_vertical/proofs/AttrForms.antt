@@ -34,12 +34,15 @@ identifier_gives bytes found e =
     let is : (take n bytes, drop n bytes) ≡ found = same _ _ r in
     let both = and_parts (starts is_identifier_start bytes) (nat_le n 64) t in
     let some : 0 < length (take n bytes) = some_pass is_identifier_byte bytes (starts_in bytes both.0) in
-    rw (← is) (parts is_identifier_byte bytes, record {
-      some = some;
-      short = grind (arith, common_steps, leb-true n 64 both.1);
-      first = first_taken is_identifier_byte is_identifier_start bytes both.0 some;
-      each = front_passes is_identifier_byte bytes;
-    }))
+    rw (← is) (
+      parts is_identifier_byte bytes,
+      record {
+        some = some;
+        short = grind (arith, common_steps, leb-true n 64 both.1);
+        first = first_taken is_identifier_byte is_identifier_start bytes both.0 some;
+        each = front_passes is_identifier_byte bytes;
+      },
+    ))
 
 pub starts_of : (p : ℕ → Bool) (xs ys : List ℕ) → 0 < length xs → p (get_or xs 0 0) ≡ true → starts p (xs ++ ys) ≡ true
 starts_of p [] ys some e = absurd (omega arith)
@@ -214,14 +217,18 @@ pub attr_back : (front : List ℕ) (attr : TagAttr) (rest : List ℕ) → Spells
 unfolding attr_at
 attr_back front attr rest s =
     let bytes : front ++ rest ≡ s.before ++ (attr.name ++ (s.left ++ 61 ∷ (s.right ++ s.quote ∷ (attr.value ++ s.quote ∷ rest)))) =
-        ap (λ f. f ++ rest) s.are ∙ sym (joined s.before attr.name s.left s.right attr.value s.quote rest) in
+    ap (λ f. f ++ rest) s.are ∙ sym (joined s.before attr.name s.left s.right attr.value s.quote rest) in
     let behind_name : List ℕ = s.left ++ 61 ∷ (s.right ++ s.quote ∷ (attr.value ++ s.quote ∷ rest)) in
     let stop : starts is_space (attr.name ++ behind_name) ≡ false = stops_spaces attr.name behind_name s.named in
     let quote_stop : starts is_space (s.quote ∷ (attr.value ++ s.quote ∷ rest)) ≡ false = quote_no_space s.quote s.quoted in
-    rw (bytes, starts_apart s.before (attr.name ++ behind_name) s.spaces s.apart, left_of is_space s.before (attr.name ++ behind_name) s.spaces stop,
-        identifier_back attr.name behind_name s.named (stops_name s.left (s.right ++ s.quote ∷ (attr.value ++ s.quote ∷ rest)) s.spaces_left),
-        equals_back s.left s.right (s.quote ∷ (attr.value ++ s.quote ∷ rest)) s.spaces_left s.spaces_right quote_stop,
-        quoted_back s.quote attr.value rest s.quoted s.inside) refl
+    rw (
+      bytes,
+      starts_apart s.before (attr.name ++ behind_name) s.spaces s.apart,
+      left_of is_space s.before (attr.name ++ behind_name) s.spaces stop,
+      identifier_back attr.name behind_name s.named (stops_name s.left (s.right ++ s.quote ∷ (attr.value ++ s.quote ∷ rest)) s.spaces_left),
+      equals_back s.left s.right (s.quote ∷ (attr.value ++ s.quote ∷ rest)) s.spaces_left s.spaces_right quote_stop,
+      quoted_back s.quote attr.value rest s.quoted s.inside,
+    ) refl
 
 -- ## Attributes one after another
 

@@ -5,6 +5,8 @@ pub mod Instances
 pub mod LineKinds
 pub mod LineRoles
 pub mod OneRole
+pub mod OneText
+pub mod Refused
 pub mod Runs
 pub mod SoFar
 pub mod Steps

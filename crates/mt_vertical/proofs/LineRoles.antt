@@ -74,10 +74,13 @@ name_of_tag form.Closing name attrs = refl
 
 pub foreign_read : (registry : Registry) (state : State) (f : Form) (name region : List ℕ) → ValidRegistry registry → IsSound registry state → ¬ Contains (kind_names registry.kinds) name →
     (line : List ℕ) → IsUtf8 line → IsFound line f name region → HasReadLine registry state line state
-foreign_read registry state f name region v s n line u h = passes registry state line v s u (inr (tag_of f name h.attrs, record {
-  spelled = h.spelled;
-  foreign = let P : List ℕ → Type 0 = λ m. ¬ Contains (kind_names registry.kinds) m in subst P (sym (name_of_tag f name h.attrs)) n;
-}))
+foreign_read registry state f name region v s n line u h = passes registry state line v s u (inr (
+  tag_of f name h.attrs,
+  record {
+    spelled = h.spelled;
+    foreign = let P : List ℕ → Type 0 = λ m. ¬ Contains (kind_names registry.kinds) m in subst P (sym (name_of_tag f name h.attrs)) n;
+  },
+))
 
 named_text : (f : Form) (name : List ℕ) (attrs : List TagAttr) (line : List ℕ) → IsTag line (tag_of f name attrs) → IsUtf8 name
 named_text form.Opening name attrs line t = name_text name t.spelled.named
@@ -195,14 +198,14 @@ opening_long registry state f name region number kind v e n k long line u h =
     let o = of_form line f form.Opening name region e h in
     let values : List (List ℕ) = map (tag_value o.attrs) kind.attrs in
     refuses_long registry state line (Opens number values) v u
-      (let a = kind_at registry.kinds number name kind n k in record {
-        kind = kind;
-        declared = a.declared;
-        attrs = o.attrs;
-        spelled = let P : List ℕ → Type 0 = λ n. IsTag line (OpeningTag n o.attrs) in subst P (sym a.named) o.spelled;
-        are = refl;
-      })
-      (λ token e. absurd (opens_none number values token e)) (long o.attrs o.inside.0 o.inside.1)
+    (let a = kind_at registry.kinds number name kind n k in record {
+      kind = kind;
+      declared = a.declared;
+      attrs = o.attrs;
+      spelled = let P : List ℕ → Type 0 = λ n. IsTag line (OpeningTag n o.attrs) in subst P (sym a.named) o.spelled;
+      are = refl;
+    })
+    (λ token e. absurd (opens_none number values token e)) (long o.attrs o.inside.0 o.inside.1)
 
 pub empty_long : (registry : Registry) (state : State) (f : Form) (name region : List ℕ) (number : ℕ) (kind : Kind) → ValidRegistry registry →
     f ≡ form.Empty → slice_get (kind_names registry.kinds) number ≡ Some name → kind ≡ get_or registry.kinds number kind →
@@ -212,14 +215,14 @@ empty_long registry state f name region number kind v e n k long line u h =
     let o = of_form line f form.Empty name region e h in
     let values : List (List ℕ) = map (tag_value o.attrs) kind.attrs in
     refuses_long registry state line (Stands number values) v u
-      (let a = kind_at registry.kinds number name kind n k in record {
-        kind = kind;
-        declared = a.declared;
-        attrs = o.attrs;
-        spelled = let P : List ℕ → Type 0 = λ n. IsTag line (EmptyTag n o.attrs) in subst P (sym a.named) o.spelled;
-        are = refl;
-      })
-      (λ token e. absurd (stands_none number values token e)) (long o.attrs o.inside.0 o.inside.1)
+    (let a = kind_at registry.kinds number name kind n k in record {
+      kind = kind;
+      declared = a.declared;
+      attrs = o.attrs;
+      spelled = let P : List ℕ → Type 0 = λ n. IsTag line (EmptyTag n o.attrs) in subst P (sym a.named) o.spelled;
+      are = refl;
+    })
+    (λ token e. absurd (stands_none number values token e)) (long o.attrs o.inside.0 o.inside.1)
 
 -- ## Tokens
 

@@ -2,7 +2,7 @@
 use Rattle.std.proofs.Common.{◌≡◌, ℕ, zero, suc, ◌+◌, ◌<◌, ◌≤◌, Bool, true, false, ◌==◌, if◌then◌else◌, List, [], ◌∷◌, ◌++◌, length, take, get_or, replicate, refl, sym, ◌∙◌, ap, subst, arith, append_assoc, Option, None, Some}
 use Rattle.std.specs.List.{flat_map}
 use Rattle.std.proofs.lemmas.Grind.{common_steps}
-use Rattle.mt_text_spec.specs.Registries.{Registry}
+use Rattle.mt_text_spec.specs.Registries.{Registry, base_count}
 use Rattle.mt_text_spec.specs.Texts.{Token, StructSpan, Text, text_limit}
 use Rattle.mt_file_spec.specs.VerticalLines.{Role, Passes, Opens, Stands, Closes, Gives, Plays}
 use Rattle.mt_file_spec.specs.Vertical.{TextCause, HasCause, AreRead, token_in, tokens_in, past, text_lines, instances_in, Vertical, FirstTextFault}
@@ -68,20 +68,29 @@ at_copies zero k = refl
 at_copies (suc n) zero = refl
 at_copies (suc n) (suc k) = at_copies n k
 
+copies_len : (n : ℕ) → length (replicate n nothing) ≡ n
+copies_len zero = refl
+copies_len (suc n) = ap suc (copies_len n)
+
 -- before the first line
-pub nothing_read : (registry : Registry) (all : List (List ℕ)) (state : State) (n : ℕ) → state.tokens ≡ [] → state.kinds ≡ replicate n nothing → IsSound registry state → HasRead registry all all 0 state
-nothing_read registry all state n t k s = record {
+pub nothing_read : (registry : Registry) (all rest : List (List ℕ)) (state : State) → rest ≡ all → state.columns ≡ base_count registry.attrs → state.tokens ≡ [] →
+    state.kinds ≡ replicate (length registry.kinds) nothing → HasRead registry all rest 0 state
+nothing_read registry all rest state e c t k = record {
   before = [];
   roles = [];
-  are = refl;
+  are = sym e;
   count = refl;
   read = tt;
   tokens = t;
   kinds = λ kind l.
       let P : Kept → Type 0 = λ k. Stands_for kind (length state.tokens) [] k in
       let Q : ℕ → Type 0 = λ p. Stands_for kind p [] nothing in
-      subst P (sym (ap (λ ks. get_or ks kind nothing) k ∙ at_copies n kind)) (subst Q (sym (ap length t)) (none_yet kind));
-  sound = s;
+      subst P (sym (ap (λ ks. get_or ks kind nothing) k ∙ at_copies (length registry.kinds) kind)) (subst Q (sym (ap length t)) (none_yet kind));
+  sound = record {
+    columns = c;
+    few = let P : ℕ → Type 0 = λ n. n ≤ text_limit in subst P (sym (ap length t)) (omega arith);
+    count = ap length k ∙ copies_len (length registry.kinds);
+  };
 }
 
 snoc_len : {A : Type 0} → (xs : List A) (x : A) → length (xs ++ x ∷ []) ≡ length xs + 1
@@ -111,7 +120,7 @@ line_read registry all old rest line number next state new h e n r = record {
       let P : Kept → Type 0 = λ k. Stands_for kind (length new.tokens) (h.roles ++ r.role ∷ []) k in
       let Q : ℕ → Type 0 = λ p. Stands_for kind p (h.roles ++ r.role ∷ []) (step kind (length state.tokens) r.role (get_or state.kinds kind nothing)) in
       subst P (sym (r.did.each kind nothing within))
-        (subst Q (place_behind state.tokens new.tokens r.role r.did.tokens) (line_more kind (length state.tokens) h.roles r.role (get_or state.kinds kind nothing) (h.kinds kind within)));
+      (subst Q (place_behind state.tokens new.tokens r.role r.did.tokens) (line_more kind (length state.tokens) h.roles r.role (get_or state.kinds kind nothing) (h.kinds kind within)));
   sound = r.sound;
 }
 

@@ -88,7 +88,7 @@ some_pass p (b ∷ bytes) e = rw e (grind (arith, common_steps))
 
 -- ## Errors
 
-err_same : {T E : Type 0} → (x y : E) → ◌≡◌ {A = Result T E} (Err x) (Err y) → x ≡ y
+pub err_same : {T E : Type 0} → (x y : E) → ◌≡◌ {A = Result T E} (Err x) (Err y) → x ≡ y
 err_same x y e = cc
 
 -- the error of a `?` is that of its call

@@ -32,11 +32,14 @@ name_gives bytes found e =
     if_some (starts is_identifier_start bytes) (Some (take n bytes, drop n bytes)) found e (λ t r.
     let is : (take n bytes, drop n bytes) ≡ found = same _ _ r in
     let some : 0 < length (take n bytes) = some_pass is_tag_name_byte bytes (starts_in bytes t) in
-    rw (← is) (parts is_tag_name_byte bytes, record {
-      some = some;
-      first = first_taken is_tag_name_byte is_identifier_start bytes t some;
-      each = front_passes is_tag_name_byte bytes;
-    }))
+    rw (← is) (
+      parts is_tag_name_byte bytes,
+      record {
+        some = some;
+        first = first_taken is_tag_name_byte is_identifier_start bytes t some;
+        each = front_passes is_tag_name_byte bytes;
+      },
+    ))
 
 drop_front : (xs ys : List ℕ) → drop (length xs) (xs ++ ys) ≡ ys
 drop_front xs ys = grind (arith, common_steps)
@@ -87,19 +90,19 @@ tail_gives bytes empty e =
     let front : List ℕ = take (prefix_len is_space bytes) bytes in
     let closes : List ℕ → Option Bool = λ rest. if ends rest then Some true else None in
     cases_if (ends rest) (Some false) (behind 47 rest >>= closes) (Some empty) e
-      (λ t r. let is : false ≡ empty = same false empty r in
-        let g = ends_gives rest t in
-        rw (← is) (record { inner = front; behind = g.0; are = parts is_space bytes ∙ ap (λ s. front ++ s) g.1; spaces = front_passes is_space bytes; spaces_behind = g.2 }))
-      (λ t r. then_some (behind 47 rest) closes empty r (λ more b r2. if_some (ends more) (Some true) empty r2 (λ u r3.
-        let is : true ≡ empty = same true empty r3 in
-        let g = ends_gives more u in
-        rw (← is) (record {
-          inner = front;
-          behind = g.0;
-          are = parts is_space bytes ∙ ap (λ s. front ++ s) (behind_gives 47 rest more b ∙ ap (λ s. 47 ∷ s) g.1);
-          spaces = front_passes is_space bytes;
-          spaces_behind = g.2;
-        }))))
+    (λ t r. let is : false ≡ empty = same false empty r in
+    let g = ends_gives rest t in
+    rw (← is) (record { inner = front; behind = g.0; are = parts is_space bytes ∙ ap (λ s. front ++ s) g.1; spaces = front_passes is_space bytes; spaces_behind = g.2 }))
+    (λ t r. then_some (behind 47 rest) closes empty r (λ more b r2. if_some (ends more) (Some true) empty r2 (λ u r3.
+    let is : true ≡ empty = same true empty r3 in
+    let g = ends_gives more u in
+    rw (← is) (record {
+      inner = front;
+      behind = g.0;
+      are = parts is_space bytes ∙ ap (λ s. front ++ s) (behind_gives 47 rest more b ∙ ap (λ s. 47 ∷ s) g.1);
+      spaces = front_passes is_space bytes;
+      spaces_behind = g.2;
+    }))))
 
 pub tail_back : (inner rest : List ℕ) (empty : Bool) → AreSpaces inner → AreSpaces rest → tail_at (inner ++ (last empty ++ rest)) ≡ Some empty
 unfolding tail_at
@@ -178,13 +181,15 @@ begin_back bytes name attrs empty s =
     let tail : List ℕ = s.inner ++ (last empty ++ s.behind) in
     let region : List ℕ = s.spelling ++ tail in
     let are : bytes ≡ name ++ region = rest_same 60 60 bytes (name ++ s.spelling ++ s.inner ++ last empty ++ s.behind) s.are ∙ sym (joined name s.spelling s.inner (last empty) s.behind) in
-    let read : ReadsAttrs region attrs tail = attrs_back s.spelling attrs tail s.attributes (no_attr s.inner s.behind empty s.spaces) in
-    (region, record {
-      named = ap tag_name_at are ∙ name_back name region s.named (stops_name region attrs s.inner s.behind empty s.spaces read);
-      tail = tail;
-      read = read;
-      ended = tail_back s.inner s.behind empty s.spaces s.spaces_behind;
-    })
+    let read : ReadsAttrs region attrs tail = attrs_back s.spelling attrs tail s.attributes (no_attr s.inner s.behind empty s.spaces) in (
+      region,
+      record {
+        named = ap tag_name_at are ∙ name_back name region s.named (stops_name region attrs s.inner s.behind empty s.spaces read);
+        tail = tail;
+        read = read;
+        ended = tail_back s.inner s.behind empty s.spaces s.spaces_behind;
+      },
+    )
 
 joined_end : (name inner rest : List ℕ) → name ++ (inner ++ 62 ∷ rest) ≡ name ++ inner ++ 62 ∷ rest
 joined_end name inner rest = simp append_assoc refl
@@ -206,7 +211,7 @@ pub end_back : (bytes name : List ℕ) → SpellsEnd (60 ∷ 47 ∷ bytes) name 
 end_back bytes name s =
     let tail : List ℕ = s.inner ++ 62 ∷ s.behind in
     let are : bytes ≡ name ++ tail =
-        rest_same 47 47 bytes (name ++ s.inner ++ 62 ∷ s.behind) (rest_same 60 60 (47 ∷ bytes) (47 ∷ (name ++ s.inner ++ 62 ∷ s.behind)) s.are) ∙ sym (joined_end name s.inner s.behind) in
+    rest_same 47 47 bytes (name ++ s.inner ++ 62 ∷ s.behind) (rest_same 60 60 (47 ∷ bytes) (47 ∷ (name ++ s.inner ++ 62 ∷ s.behind)) s.are) ∙ sym (joined_end name s.inner s.behind) in
     record {
       tail = tail;
       named = ap tag_name_at are ∙ name_back name tail s.named (ends_name s.inner s.behind false s.spaces);
@@ -240,7 +245,7 @@ no_slash (x ∷ name) rest b bytes n e f =
 pub begin_no_slash : (bytes rest name : List ℕ) (attrs : List TagAttr) (close : List ℕ) → behind 47 bytes ≡ Some rest → SpellsBegin close (60 ∷ bytes) name attrs → ⊥
 begin_no_slash bytes rest name attrs close b s =
     let are : bytes ≡ name ++ (s.spelling ++ (s.inner ++ (close ++ s.behind))) =
-        rest_same 60 60 bytes (name ++ s.spelling ++ s.inner ++ close ++ s.behind) s.are ∙ sym (joined name s.spelling s.inner close s.behind) in
+    rest_same 60 60 bytes (name ++ s.spelling ++ s.inner ++ close ++ s.behind) s.are ∙ sym (joined name s.spelling s.inner close s.behind) in
     no_slash name (s.spelling ++ (s.inner ++ (close ++ s.behind))) 47 rest s.named (sym (behind_gives 47 bytes rest b) ∙ are) refl
 
 -- behind `</` no other tag is

@@ -51,7 +51,7 @@ attr_text bytes attr rest e u =
     let small : s.quote < 128 = quote_small s.quote s.quoted in
     let head : List ℕ = s.before ++ attr.name ++ s.left ++ 61 ∷ s.right in
     let all : bytes ≡ head ++ s.quote ∷ (attr.value ++ s.quote ∷ rest) =
-        a.are ∙ ap (λ f. f ++ rest) s.are ∙ joined s.before attr.name s.left s.right attr.value s.quote rest in
+    a.are ∙ ap (λ f. f ++ rest) s.are ∙ joined s.before attr.name s.left s.right attr.value s.quote rest in
     let inside : IsUtf8 (attr.value ++ s.quote ∷ rest) = utf8_behind head (attr.value ++ s.quote ∷ rest) s.quote small (subst IsUtf8 all u) in
     (utf8_before attr.value rest s.quote small inside, utf8_behind attr.value rest s.quote small inside)
 

@@ -90,7 +90,7 @@ tokens_valid registry place [] (role ∷ roles) r f = absurd r
 tokens_valid registry place (line ∷ ls) [] r f = absurd r
 tokens_valid registry place (line ∷ ls) (role ∷ roles) r f =
     All-append (ValidToken registry) (token_in role) (tokens_in roles) (one_valid registry place line role r.0 r.1 (All-head (All (λ b. b ≢ 10)) line ls f))
-      (tokens_valid registry (past place role) ls roles r.2 (All-tail (All (λ b. b ≢ 10)) line ls f))
+    (tokens_valid registry (past place role) ls roles r.2 (All-tail (All (λ b. b ≢ 10)) line ls f))
 
 few_token : (place : ℕ) → place ≤ text_limit → place ≢ text_limit → place + 1 ≤ text_limit
 few_token place l n = omega (arith, l, n)
@@ -152,10 +152,10 @@ begun_valid : (registry : Registry) (kind place total : ℕ) (line : List ℕ) (
 begun_valid registry kind place total line Passes after p g f l = All-nil (ValidStructSpan registry total)
 begun_valid registry kind place total line (Opens number values) after p g f l =
     opened_valid (number == kind) registry kind number place total values after refl p.kind p.declared (declared_len registry line number values OpeningTag p)
-      (all_valid values (opening_clean registry line number values p (line_text registry place line g) f) (kept_short registry place line (Opens number values) p g)) l
+    (all_valid values (opening_clean registry line number values p (line_text registry place line g) f) (kept_short registry place line (Opens number values) p g)) l
 begun_valid registry kind place total line (Stands number values) after p g f l =
     stood_valid (number == kind) registry kind number place total values after refl p.kind p.declared (declared_len registry line number values EmptyTag p)
-      (all_valid values (empty_clean registry line number values p (line_text registry place line g) f) (kept_short registry place line (Stands number values) p g)) l
+    (all_valid values (empty_clean registry line number values p (line_text registry place line g) f) (kept_short registry place line (Stands number values) p g)) l
 begun_valid registry kind place total line (Closes number) after p g f l = All-nil (ValidStructSpan registry total)
 begun_valid registry kind place total line (Gives token) after p g f l = All-nil (ValidStructSpan registry total)
 
@@ -167,8 +167,8 @@ instances_valid registry kind place total [] (role ∷ roles) r f l = absurd r
 instances_valid registry kind place total (line ∷ ls) [] r f l = absurd r
 instances_valid registry kind place total (line ∷ ls) (role ∷ roles) r f l =
     All-append (ValidStructSpan registry total) (begun kind place roles role) (instances_from kind (past place role) roles)
-      (begun_valid registry kind place total line role roles r.0 r.1 (All-head (All (λ b. b ≢ 10)) line ls f) l)
-      (instances_valid registry kind (past place role) total ls roles r.2 (All-tail (All (λ b. b ≢ 10)) line ls f) l)
+    (begun_valid registry kind place total line role roles r.0 r.1 (All-head (All (λ b. b ≢ 10)) line ls f) l)
+    (instances_valid registry kind (past place role) total ls roles r.2 (All-tail (All (λ b. b ≢ 10)) line ls f) l)
 
 all_instances_valid : (registry : Registry) (n total : ℕ) (ls : List (List ℕ)) (roles : List Role) → AreRead registry 0 ls roles → All (All (λ b. b ≢ 10)) ls → place_after 0 roles ≤ total →
     All (ValidStructSpan registry total) (instances_in n roles)
@@ -195,7 +195,7 @@ all_from : (kind place least : ℕ) (roles : List Role) → least ≤ place → 
 all_from kind place least [] l = All-nil (FromOn kind least)
 all_from kind place least (role ∷ roles) l =
     All-append (FromOn kind least) (begun kind place roles role) (instances_from kind (past place role) roles) (begun_from kind place least role roles l)
-      (all_from kind (past place role) least roles (omega (arith, l, past_at_least place role)))
+    (all_from kind (past place role) least roles (omega (arith, l, past_at_least place role)))
 
 none_begun : (kind place : ℕ) (role : Role) (after : List Role) → is_tag_of kind role ≡ false → begun kind place after role ≡ []
 none_begun kind place Passes after e = refl
@@ -231,7 +231,7 @@ pairs_both : {X : Type 0} → (R : X → X → Type 0) (xs ys : List X) → AllP
 pairs_both R [] ys h k c = k
 pairs_both R (x ∷ xs) ys h k c =
     AllPairs-cons R x (xs ++ ys) (All-append (R x) xs ys (pairs_head R x xs h) (All-head (λ x. All (R x) ys) x xs c))
-      (pairs_both R xs ys (pairs_tail R x xs h) k (All-tail (λ x. All (R x) ys) x xs c))
+    (pairs_both R xs ys (pairs_tail R x xs h) k (All-tail (λ x. All (R x) ys) x xs c))
 
 begun_pairs : (kind place : ℕ) (role : Role) (after : List Role) → AllPairs ComesBefore (begun kind place after role)
 begun_pairs kind place Passes after = no_pairs
@@ -244,12 +244,12 @@ begun_before : (kind place : ℕ) (role : Role) (after : List Role) → All (λ 
 begun_before kind place Passes after = All-nil (λ span. All (ComesBefore span) (instances_from kind place after))
 begun_before kind place (Opens number values) after =
     one_if (λ span. All (ComesBefore span) (instances_from kind place after)) (number == kind) (record { kind = kind; begin = place; end = next_place kind place after; values = values })
-      (All-weaker (FromOn kind (next_place kind place after)) (ComesBefore (record { kind = kind; begin = place; end = next_place kind place after; values = values }))
-        (λ span f. inr (sym f.0, f.1)) (instances_from kind place after) (next_from kind place after))
+    (All-weaker (FromOn kind (next_place kind place after)) (ComesBefore (record { kind = kind; begin = place; end = next_place kind place after; values = values }))
+    (λ span f. inr (sym f.0, f.1)) (instances_from kind place after) (next_from kind place after))
 begun_before kind place (Stands number values) after =
     one_if (λ span. All (ComesBefore span) (instances_from kind place after)) (number == kind) (record { kind = kind; begin = place; end = place; values = values })
-      (All-weaker (FromOn kind place) (ComesBefore (record { kind = kind; begin = place; end = place; values = values }))
-        (λ span f. inr (sym f.0, f.1)) (instances_from kind place after) (all_from kind place place after (omega arith)))
+    (All-weaker (FromOn kind place) (ComesBefore (record { kind = kind; begin = place; end = place; values = values }))
+    (λ span f. inr (sym f.0, f.1)) (instances_from kind place after) (all_from kind place place after (omega arith)))
 begun_before kind place (Closes number) after = All-nil (λ span. All (ComesBefore span) (instances_from kind place after))
 begun_before kind place (Gives token) after = All-nil (λ span. All (ComesBefore span) (instances_from kind (place + 1) after))
 
@@ -257,23 +257,23 @@ kind_ordered : (kind place : ℕ) (roles : List Role) → AllPairs ComesBefore (
 kind_ordered kind place [] = no_pairs
 kind_ordered kind place (role ∷ roles) =
     pairs_both ComesBefore (begun kind place roles role) (instances_from kind (past place role) roles) (begun_pairs kind place role roles) (kind_ordered kind (past place role) roles)
-      (begun_before kind place role roles)
+    (begun_before kind place role roles)
 
 -- all are of kinds below
 kinds_below : (n : ℕ) (roles : List Role) → All (λ span. span.kind < n) (instances_in n roles)
 kinds_below zero roles = All-nil (λ (span : StructSpan). span.kind < 0)
 kinds_below (suc n) roles =
     All-append (λ (span : StructSpan). span.kind < suc n) (instances_in n roles) (instances_from n 0 roles)
-      (All-weaker (λ (span : StructSpan). span.kind < n) (λ span. span.kind < suc n) (λ span l. omega arith) (instances_in n roles) (kinds_below n roles))
-      (All-weaker (FromOn n 0) (λ span. span.kind < suc n) (λ span f. let e : span.kind ≡ n = f.0 in omega arith) (instances_from n 0 roles) (all_from n 0 0 roles (omega arith)))
+    (All-weaker (λ (span : StructSpan). span.kind < n) (λ span. span.kind < suc n) (λ span l. omega arith) (instances_in n roles) (kinds_below n roles))
+    (All-weaker (FromOn n 0) (λ span. span.kind < suc n) (λ span f. let e : span.kind ≡ n = f.0 in omega arith) (instances_from n 0 roles) (all_from n 0 0 roles (omega arith)))
 
 all_ordered : (n : ℕ) (roles : List Role) → AllPairs ComesBefore (instances_in n roles)
 all_ordered zero roles = no_pairs
 all_ordered (suc n) roles =
     pairs_both ComesBefore (instances_in n roles) (instances_from n 0 roles) (all_ordered n roles) (kind_ordered n 0 roles)
-      (All-weaker (λ (span : StructSpan). span.kind < n) (λ span. All (ComesBefore span) (instances_from n 0 roles))
-        (λ span l. All-weaker (FromOn n 0) (ComesBefore span) (λ later f. inl (let e : later.kind ≡ n = f.0 in omega arith)) (instances_from n 0 roles) (all_from n 0 0 roles (omega arith)))
-        (instances_in n roles) (kinds_below n roles))
+    (All-weaker (λ (span : StructSpan). span.kind < n) (λ span. All (ComesBefore span) (instances_from n 0 roles))
+    (λ span l. All-weaker (FromOn n 0) (ComesBefore span) (λ later f. inl (let e : later.kind ≡ n = f.0 in omega arith)) (instances_from n 0 roles) (all_from n 0 0 roles (omega arith)))
+    (instances_in n roles) (kinds_below n roles))
 
 -- ## The text
 

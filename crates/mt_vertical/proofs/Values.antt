@@ -161,11 +161,11 @@ column_cases m xs l u (inl low) more =
     let n : ℕ = prefix_len (differs 9) xs in
     let are : xs ≡ take n xs ++ 9 ∷ drop (n + 1) xs = tab_at xs n low (prefix_len_stops (differs 9) xs 0 low) in
     let parts : columns xs ≡ take n xs ∷ columns (drop (n + 1) xs) =
-        ap columns are ∙ slice_split_at (λ b. b == 9) (take n xs) 9 (drop (n + 1) xs) (differs_false (take n xs) (front_passes (differs 9) xs)) refl in
+    ap columns are ∙ slice_split_at (λ b. b == 9) (take n xs) 9 (drop (n + 1) xs) (differs_false (take n xs) (front_passes (differs 9) xs)) refl in
     let v : IsUtf8 (take n xs ++ 9 ∷ drop (n + 1) xs) = subst IsUtf8 are u in
     All-same IsUtf8 (columns xs) (take n xs ∷ columns (drop (n + 1) xs)) parts
-      (All-cons IsUtf8 (take n xs) (columns (drop (n + 1) xs)) (utf8_before (take n xs) (drop (n + 1) xs) 9 (omega arith) v)
-        (more (drop (n + 1) xs) (shorter xs n m low l) (utf8_behind (take n xs) (drop (n + 1) xs) 9 (omega arith) v)))
+    (All-cons IsUtf8 (take n xs) (columns (drop (n + 1) xs)) (utf8_before (take n xs) (drop (n + 1) xs) 9 (omega arith) v)
+    (more (drop (n + 1) xs) (shorter xs n m low l) (utf8_behind (take n xs) (drop (n + 1) xs) 9 (omega arith) v)))
 column_cases m xs l u (inr high) more =
     let n : ℕ = prefix_len (differs 9) xs in
     let all : AllPass (differs 9) xs = let P : List ℕ → Type 0 = λ ys. AllPass (differs 9) ys in subst P (take_all xs n high) (front_passes (differs 9) xs) in
@@ -212,11 +212,11 @@ attrs_text (attr ∷ attrs) bytes tail s u =
     let head : List ℕ = a.before ++ attr.name ++ a.left ++ 61 ∷ a.right in
     let rest : List ℕ = s.1 ++ tail in
     let are : bytes ++ tail ≡ head ++ a.quote ∷ (attr.value ++ a.quote ∷ rest) =
-        ap (λ b. b ++ tail) s.2 ∙ append_assoc s.0 s.1 tail ∙ ap (λ f. f ++ rest) a.are ∙ joined a.before attr.name a.left a.right attr.value rest a.quote in
+    ap (λ b. b ++ tail) s.2 ∙ append_assoc s.0 s.1 tail ∙ ap (λ f. f ++ rest) a.are ∙ joined a.before attr.name a.left a.right attr.value rest a.quote in
     let small : a.quote < 128 = quote_small a.quote a.quoted in
     let inside : IsUtf8 (attr.value ++ a.quote ∷ rest) = utf8_behind head (attr.value ++ a.quote ∷ rest) a.quote small (subst IsUtf8 are u) in
     All-cons (λ (a : TagAttr). IsUtf8 a.value) attr attrs (utf8_before attr.value rest a.quote small inside)
-      (attrs_text attrs s.1 tail s.4 (utf8_behind attr.value rest a.quote small inside))
+    (attrs_text attrs s.1 tail s.4 (utf8_behind attr.value rest a.quote small inside))
 
 -- the values have what all bytes have
 attrs_all : (P : ℕ → Type 0) (attrs : List TagAttr) (bytes : List ℕ) → SpellsAttrs bytes attrs → All P bytes → All (λ a. All P a.value) attrs
@@ -225,7 +225,7 @@ attrs_all P (attr ∷ attrs) bytes s all =
     let a = s.3 in
     let both : All P (s.0 ++ s.1) = All-same P (s.0 ++ s.1) bytes (sym s.2) all in
     let whole : All P (a.before ++ attr.name ++ a.left ++ 61 ∷ a.right ++ a.quote ∷ attr.value ++ a.quote ∷ []) =
-        All-same P (a.before ++ attr.name ++ a.left ++ 61 ∷ a.right ++ a.quote ∷ attr.value ++ a.quote ∷ []) s.0 (sym a.are) (all_left P s.0 s.1 both) in
+    All-same P (a.before ++ attr.name ++ a.left ++ 61 ∷ a.right ++ a.quote ∷ attr.value ++ a.quote ∷ []) s.0 (sym a.are) (all_left P s.0 s.1 both) in
     let front : All P ((a.before ++ attr.name ++ a.left ++ 61 ∷ a.right ++ a.quote ∷ attr.value)) = all_left P (a.before ++ attr.name ++ a.left ++ 61 ∷ a.right ++ a.quote ∷ attr.value) (a.quote ∷ []) whole in
     let value : All P (a.quote ∷ attr.value) = all_right P (a.before ++ attr.name ++ a.left ++ 61 ∷ a.right) (a.quote ∷ attr.value) front in
     All-cons (λ (a : TagAttr). All P a.value) attr attrs (All-tail P a.quote attr.value value) (attrs_all P attrs s.1 s.4 (all_right P s.0 s.1 both))

@@ -51,7 +51,7 @@ quoted_at (b ∷ bytes) = if is_quote b then quote_at b bytes else None
 unfoldable pub attr_at : List ℕ → Option (TagAttr × List ℕ)
 attr_at bytes = if starts is_space bytes
     then identifier_at (past is_space bytes) >>= (λ name. equals_at name.1 >>= (λ rest. quoted_at rest >>= (λ value.
-        Some (record { name = name.0; value = value.0 }, value.1))))
+    Some (record { name = name.0; value = value.0 }, value.1))))
     else None
 
 -- the bytes begin with these attributes, and behind them stands none

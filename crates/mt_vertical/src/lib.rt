@@ -3,3 +3,4 @@
 
 mod text;
 
+pub use text::{TextError, no_text_with_fault, one_fault, one_role, one_text, read_text};

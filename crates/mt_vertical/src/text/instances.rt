@@ -49,7 +49,8 @@ impl Instances {
     {
         match self.open_one.take() {
             Some(began) => {
-                self.done.push(StructSpan::new(kind, began.begin, place, began.values))?;
+                self.done
+                    .push(StructSpan::new(kind, began.begin, place, began.values))?;
                 Ok(())
             }
             None => Ok(()),

@@ -62,7 +62,12 @@ impl Reader {
     }
 
     /// Reads a line.
-    pub fn read_line(&mut self, alloc: Global, registry: &Registry, line: &[u8]) -> Result<(), Fault>
+    pub fn read_line(
+        &mut self,
+        alloc: Global,
+        registry: &Registry,
+        line: &[u8],
+    ) -> Result<(), Fault>
         requires valid { ValidRegistry registry.now }
         requires sound { IsSound registry.now self.old }
         ensures ok { OnOk result (HasReadLine registry.now self.old line.now self.new) }
@@ -77,7 +82,12 @@ impl Reader {
     }
 
     /// Reads a line that is UTF-8.
-    fn read_text_line(&mut self, alloc: Global, registry: &Registry, line: &[u8]) -> Result<(), Fault>
+    fn read_text_line(
+        &mut self,
+        alloc: Global,
+        registry: &Registry,
+        line: &[u8],
+    ) -> Result<(), Fault>
         requires valid { ValidRegistry registry.now }
         requires sound { IsSound registry.now self.old }
         requires text { IsUtf8 line.now }
@@ -132,7 +142,13 @@ impl Reader {
     }
 
     /// Reads a tag of the kind with this number.
-    fn read_declared(&mut self, alloc: Global, registry: &Registry, kind: u16, tag: Tag) -> Result<(), Fault>
+    fn read_declared(
+        &mut self,
+        alloc: Global,
+        registry: &Registry,
+        kind: u16,
+        tag: Tag,
+    ) -> Result<(), Fault>
         requires valid { ValidRegistry registry.now }
         requires sound { IsSound registry.now self.old }
         requires declared { slice_get (kind_names registry.now.kinds) kind ≡ Some tag.name.now }
