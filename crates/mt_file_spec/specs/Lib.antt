@@ -1,2 +1,4 @@
 pub mod RegistryFile
+pub mod Tags
 pub mod Vertical
+pub mod VerticalLines

@@ -1,7 +1,13 @@
+pub mod Lines
 pub mod Misstated
 pub mod ReadLines
+pub mod Readers
+pub mod Refusals
 pub mod RegistryErrors
 pub mod RegistryLaws
 pub mod SeenBlock
 pub mod SeenForm
 pub mod Sound
+pub mod TagForms
+pub mod TagReading
+pub mod TextLaws

@@ -8,11 +8,11 @@ pub fn one_registry()
 {}
 
 /// No file has two first faults: this function proves it, and does nothing.
-pub fn one_fault()
+pub fn one_registry_fault()
     ensures { OneFault }
 {}
 
 /// No file has two kinds of answer: this function proves it, and does nothing.
-pub fn one_answer()
+pub fn one_registry_answer()
     ensures { AreApart }
 {}

@@ -1,0 +1,234 @@
+//! What is kept while a vertical is read, line by line.
+
+ghost use Rattle.std.specs.Prelude.{◌≡◌, ◌≢◌, ℕ, ◌<◌, ◌≤◌, [], List as Items, length, replicate, slice_get, None, Some, IsUtf8, IfOk, OnOk};
+ghost use Rattle.mt_text_spec.specs.Registries.{ValidRegistry, base_count, kind_names};
+ghost use Rattle.mt_text_spec.specs.Texts.{text_limit};
+ghost use Rattle.mt_file_spec.specs.Vertical.{TextCause};
+ghost use Rattle.mt_file_spec.specs.VerticalLines.{Opens, Stands, Closes, columns, first_columns};
+ghost use Rattle.mt_vertical.specs.Readers as readers;
+ghost use Rattle.mt_vertical.specs.Readers.{IsSound, Did, HasReadLine, Refuses, AreShort, HasLong, token_role, gathered};
+ghost use Rattle.mt_vertical.specs.TagForms.{IsFound, HasText};
+
+use super::instances::Instances;
+use super::lines::{self, Line};
+use super::tags::{Form, Tag};
+use super::values::{Fault, column_values, tag_values};
+use mt_base::{Attr, List, NoMemory, Registry, StructSpan, Text, Token, Value};
+use std::alloc::Global;
+use std::marker::Model;
+use std::str;
+
+/// The most tokens of a text.
+const MOST_TOKENS: usize = 1_048_576;
+
+/// The tokens so far, and the instances of each kind.
+#[derive(Debug, Drop)]
+pub struct Reader {
+    columns: usize,
+    tokens: List<Token>,
+    kinds: Vec<Instances>,
+}
+
+impl Model for Reader {
+    ghost Value = { readers.State };
+
+    ghost view = { λ r. record { columns = r.columns; tokens = r.tokens; kinds = r.kinds.items } };
+}
+
+/// How many of these attributes are base attributes.
+fn base_attrs(attrs: &[Attr]) -> usize
+    ensures { result ≡ base_count attrs.now }
+{
+    attrs.iter().filter(|attr| attr.is_base()).count()
+}
+
+impl Reader {
+    /// Before any line.
+    pub fn new(alloc: Global, registry: &Registry) -> Result<Self, NoMemory>
+        ensures columns { IfOk result (λ reader. reader.columns ≡ base_count registry.now.attrs) }
+        ensures tokens { IfOk result (λ reader. reader.tokens ≡ []) }
+        ensures kinds { IfOk result (λ reader. reader.kinds ≡ replicate (length registry.now.kinds) (record { done = []; open_one = None })) }
+    {
+        let count = registry.kinds().len();
+        let mut kinds = Vec::with_capacity(alloc, count)?;
+        for _ in 0..count {
+            kinds.push(Instances::new(alloc))?;
+        }
+        Ok(Reader {
+            columns: base_attrs(registry.attrs().as_slice()),
+            tokens: List::new(alloc),
+            kinds,
+        })
+    }
+
+    /// Reads a line.
+    pub fn read_line(
+        &mut self,
+        alloc: Global,
+        registry: &Registry,
+        line: &[u8],
+    ) -> Result<(), Fault>
+        requires valid { ValidRegistry registry.now }
+        requires sound { IsSound registry.now self.old }
+        ensures ok { OnOk result (HasReadLine registry.now self.old line.now self.new) }
+        ensures not_utf8 { result ≡ Err Fault.NotUtf8 → Refuses registry.now self.old line.now TextCause.NotUtf8 }
+        ensures too_many { result ≡ Err Fault.TooManyTokens → Refuses registry.now self.old line.now TextCause.TooManyTokens }
+        ensures too_long { result ≡ Err Fault.ValueTooLong → Refuses registry.now self.old line.now TextCause.ValueTooLong }
+    {
+        match str::from_utf8(line) {
+            Ok(_) => self.read_text_line(alloc, registry, line),
+            Err(_) => Err(Fault::NotUtf8),
+        }
+    }
+
+    /// Reads a line that is UTF-8.
+    fn read_text_line(
+        &mut self,
+        alloc: Global,
+        registry: &Registry,
+        line: &[u8],
+    ) -> Result<(), Fault>
+        requires valid { ValidRegistry registry.now }
+        requires sound { IsSound registry.now self.old }
+        requires text { IsUtf8 line.now }
+        ensures ok { OnOk result (HasReadLine registry.now self.old line.now self.new) }
+        ensures not_utf8 { result ≡ Err Fault.NotUtf8 → ⊥ }
+        ensures too_many { result ≡ Err Fault.TooManyTokens → Refuses registry.now self.old line.now TextCause.TooManyTokens }
+        ensures too_long { result ≡ Err Fault.ValueTooLong → Refuses registry.now self.old line.now TextCause.ValueTooLong }
+    {
+        match lines::read_line(line) {
+            Line::Skipped => Ok(()),
+            Line::Tag(tag) => self.read_tag(alloc, registry, tag),
+            Line::Token => self.read_token(alloc, line),
+        }
+    }
+
+    /// Reads a line that is a token.
+    fn read_token(&mut self, alloc: Global, line: &[u8]) -> Result<(), Fault>
+        requires { IsUtf8 line.now }
+        ensures ok { OnOk result (Did self.old (token_role self.old.columns line.now) self.new) }
+        ensures short { OnOk result (AreShort (first_columns self.old.columns (columns line.now))) }
+        ensures few { OnOk result (length self.old.tokens ≢ text_limit) }
+        ensures not_utf8 { result ≡ Err Fault.NotUtf8 → ⊥ }
+        ensures too_many { result ≡ Err Fault.TooManyTokens → length self.old.tokens ≡ text_limit }
+        ensures too_long { result ≡ Err Fault.ValueTooLong → HasLong (first_columns self.old.columns (columns line.now)) × (length self.old.tokens ≢ text_limit) }
+    {
+        if self.tokens.len() == MOST_TOKENS {
+            return Err(Fault::TooManyTokens);
+        }
+        let values = column_values(alloc, self.columns, line)?;
+        self.tokens.push(Token::new(values))?;
+        Ok(())
+    }
+
+    /// Reads a line that is a tag.
+    fn read_tag(&mut self, alloc: Global, registry: &Registry, tag: Tag) -> Result<(), Fault>
+        requires valid { ValidRegistry registry.now }
+        requires sound { IsSound registry.now self.old }
+        requires name { IsUtf8 tag.name.now }
+        requires text { HasText tag.form tag.attrs.now }
+        ensures ok { OnOk result ((line : Items ℕ) → IsUtf8 line → IsFound line tag.entry.form tag.entry.name.now tag.entry.attrs.now → HasReadLine registry.now self.old line self.new) }
+        ensures not_utf8 { result ≡ Err Fault.NotUtf8 → ⊥ }
+        ensures too_many { result ≡ Err Fault.TooManyTokens → ⊥ }
+        ensures too_long { result ≡ Err Fault.ValueTooLong → (line : Items ℕ) → IsUtf8 line → IsFound line tag.entry.form tag.entry.name.now tag.entry.attrs.now → Refuses registry.now self.old line TextCause.ValueTooLong }
+    {
+        let Ok(name) = str::from_utf8(tag.name) else {
+            unreachable!()
+        };
+        match registry.find_kind(name) {
+            Some(kind) => self.read_declared(alloc, registry, kind, tag),
+            None => Ok(()),
+        }
+    }
+
+    /// Reads a tag of the kind with this number.
+    fn read_declared(
+        &mut self,
+        alloc: Global,
+        registry: &Registry,
+        kind: u16,
+        tag: Tag,
+    ) -> Result<(), Fault>
+        requires valid { ValidRegistry registry.now }
+        requires sound { IsSound registry.now self.old }
+        requires declared { slice_get (kind_names registry.now.kinds) kind ≡ Some tag.name.now }
+        requires within { kind < length registry.now.kinds }
+        requires text { HasText tag.form tag.attrs.now }
+        ensures ok { OnOk result ((line : Items ℕ) → IsUtf8 line → IsFound line tag.entry.form tag.entry.name.now tag.entry.attrs.now → HasReadLine registry.now self.old line self.new) }
+        ensures not_utf8 { result ≡ Err Fault.NotUtf8 → ⊥ }
+        ensures too_many { result ≡ Err Fault.TooManyTokens → ⊥ }
+        ensures too_long { result ≡ Err Fault.ValueTooLong → (line : Items ℕ) → IsUtf8 line → IsFound line tag.entry.form tag.entry.name.now tag.entry.attrs.now → Refuses registry.now self.old line TextCause.ValueTooLong }
+    {
+        let declared = registry.kinds().get(kind as usize);
+        match tag.form {
+            Form::Opening => {
+                let values = tag_values(alloc, declared, tag.attrs)?;
+                self.open(kind, values)?;
+            }
+            Form::Empty => {
+                let values = tag_values(alloc, declared, tag.attrs)?;
+                self.stand(kind, values)?;
+            }
+            Form::Closing => self.end(kind)?,
+        }
+        Ok(())
+    }
+
+    /// Begins an instance of the kind.
+    fn open(&mut self, kind: u16, values: List<Value>) -> Result<(), NoMemory>
+        requires few { length self.old.tokens ≤ text_limit }
+        requires within { kind < length self.old.kinds }
+        ensures { OnOk result (Did self.old (Opens kind values) self.new) }
+    {
+        let place = self.tokens.len() as u32;
+        self.kinds[kind as usize].open(kind, place, values)
+    }
+
+    /// Adds an empty instance of the kind.
+    fn stand(&mut self, kind: u16, values: List<Value>) -> Result<(), NoMemory>
+        requires few { length self.old.tokens ≤ text_limit }
+        requires within { kind < length self.old.kinds }
+        ensures { OnOk result (Did self.old (Stands kind values) self.new) }
+    {
+        let place = self.tokens.len() as u32;
+        self.kinds[kind as usize].stand(kind, place, values)
+    }
+
+    /// Ends the open instance of the kind.
+    fn end(&mut self, kind: u16) -> Result<(), NoMemory>
+        requires few { length self.old.tokens ≤ text_limit }
+        requires within { kind < length self.old.kinds }
+        ensures { OnOk result (Did self.old (Closes kind) self.new) }
+    {
+        let place = self.tokens.len() as u32;
+        self.kinds[kind as usize].end(kind, place)
+    }
+
+    /// The text of this name, in which the open instances end at its end.
+    pub fn finish(self, alloc: Global, name: Value) -> Result<Text, NoMemory>
+        requires few { length self.tokens ≤ text_limit }
+        requires kinds { length self.kinds ≤ 16 }
+        ensures named { IfOk result (λ text. text.name ≡ name) }
+        ensures tokens { IfOk result (λ text. text.tokens ≡ self.tokens) }
+        ensures structs { IfOk result (λ text. text.structs ≡ gathered 0 (length self.tokens) self.kinds) }
+    {
+        let place = self.tokens.len() as u32;
+        let structs = gather(alloc, self.kinds, place)?;
+        Ok(Text::new(name, self.tokens, List::from_vec(structs)))
+    }
+}
+
+/// The instances of all kinds, kind after kind.
+fn gather(alloc: Global, kinds: Vec<Instances>, place: u32) -> Result<Vec<StructSpan>, NoMemory>
+    requires { length kinds.items ≤ 16 }
+    ensures { IfOk result (λ all. all.items ≡ gathered 0 place kinds.items) }
+{
+    let mut all = Vec::new(alloc);
+    let mut kind = 0;
+    for instances in kinds {
+        let mut ended = instances.finish(kind, place)?;
+        all.append(&mut ended)?;
+        kind += 1;
+    }
+    Ok(all)
+}
