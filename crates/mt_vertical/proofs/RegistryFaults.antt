@@ -1,14 +1,14 @@
 -- The first fault of a registry file.
-use Rattle.std.proofs.Common.{ℕ, ◌≡◌, ◌+◌, ◌<◌, ◌≤◌, ◌⊎◌, inl, inr, ◌==◌, Bool, true, false, cond, nat_lt, List, [], ◌∷◌, ◌++◌, length, if◌then◌else◌, refl, sym, ◌∙◌, ap, subst, arith, Option, None, Some, eqb-true}
-use Rattle.std.specs.List.{All, cons_option}
+use Rattle.std.proofs.Common.{ℕ, ◌≡◌, ◌+◌, ◌<◌, ◌≤◌, ◌⊎◌, inl, inr, ◌==◌, Bool, true, false, nat_lt, List, [], ◌∷◌, ◌++◌, length, if◌then◌else◌, refl, sym, ◌∙◌, ap, subst, arith, Option, None, Some, eqb-true}
+use Rattle.std.specs.List.{cons_option}
 use Rattle.std.specs.Str.Lines.{lines}
 use Rattle.std.proofs.lemmas.Bool.{cases_lt}
 use Rattle.std.proofs.lemmas.Bool.Decides.{nat_tests}
 use borrow.Author.Tests.{ltb-true, ltb-false}
 use Rattle.std.proofs.lemmas.List.Elements.{filter_map-append}
-use Rattle.mt_file_spec.specs.RegistryFile.{Form, Skipped, Closing, Entry, Formless, Block, Effect, Statement, Line, File, LineAt, RegistryCause, Syntax, Twice, TooMany, UnknownMapper, UnknownBase, rank, IsRefused, IsCause, HasCause, Refused, Unclosed, Misstated, IsFaultless, FirstRegistryFault, form_of, stated, statement_in, statement_of, statements_of, lines_from, behind, behind_all, effect_of, unclosed_at, file_of}
+use Rattle.mt_file_spec.specs.RegistryFile.{Form, Skipped, Closing, Entry, Formless, Block, Effect, Statement, Line, File, RegistryCause, Syntax, Twice, TooMany, UnknownMapper, UnknownBase, rank, IsRefused, IsCause, HasCause, Refused, Unclosed, Misstated, IsFaultless, FirstRegistryFault, form_of, stated, statement_in, statement_of, statements_of, lines_from, behind, behind_all, effect_of, unclosed_at, file_of}
 use Rattle.mt_vertical.specs.ReadLines.{FirstRefused, IsFirstRefused}
-use Rattle.mt_vertical.specs.Misstated.{Blamed, AreUnblamed, FirstBlamed, IsFirstBlamed, IsFirstOf, syntax_of, first_of}
+use Rattle.mt_vertical.specs.Misstated.{Blamed, FirstBlamed, IsFirstBlamed, IsFirstOf, syntax_of, first_of}
 use Rattle.mt_vertical.specs.RegistryErrors.{error_seen, IsRefusal}
 use Rattle.mt_vertical.specs.declared.registry.RegistryError.{RegistryError}
 use Rattle.mt_vertical.specs.declared.registry.RegistryError.TheVariants as error

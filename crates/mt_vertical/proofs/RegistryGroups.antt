@@ -1,10 +1,9 @@
 -- What is declared in one place of a registry file that has no fault: identifiers that differ, at most 16.
-use Rattle.std.proofs.Common.{ℕ, ◌≡◌, ◌≢◌, ◌+◌, ◌<◌, ◌≤◌, ◌⊎◌, inl, inr, Bool, true, false, not, cond, ◌==◌, ◌&&◌, ◌||◌, List, [], ◌∷◌, ◌++◌, length, map, get_or, nat_eq, refl, sym, ◌∙◌, ap, subst, arith, append_assoc, eqb-true, Option, None, Some}
+use Rattle.std.proofs.Common.{ℕ, ◌≡◌, ◌≢◌, ◌<◌, ◌≤◌, inl, inr, Bool, true, false, not, cond, ◌==◌, ◌&&◌, ◌||◌, List, [], ◌∷◌, ◌++◌, length, map, get_or, nat_eq, refl, sym, ◌∙◌, ap, subst, arith, append_assoc, eqb-true}
 use Rattle.std.specs.Prelude.{slice_index}
-use Rattle.std.specs.List.{All, AllPass, AllPairs, Contains, filter, find, list_any, count_by}
+use Rattle.std.specs.List.{All, Contains, filter, list_any, count_by}
 use Rattle.std.specs.Cmp.Lexicographic.{pointwise}
 use Rattle.std.proofs.lemmas.Bool.{cases_Bool, cases_lt}
-use Rattle.std.proofs.lemmas.Grind.{common_steps}
 use Rattle.std.proofs.lemmas.List.Elements.{All-nil, All-cons, All-push, filter-append}
 use Rattle.std.proofs.lemmas.List.{length-map, length-append}
 use Rattle.std.proofs.lemmas.List.Folds.{Any-from_list_any, list_any_at}
@@ -13,10 +12,10 @@ use Rattle.std.proofs.lemmas.List.Quantifiers.{all_pairs_push}
 use Rattle.std.proofs.lemmas.Slice.Eq.{bytes_eq-Decides}
 use Rattle.mt_text_spec.specs.Words.{IsIdentifier, is_identifier_start, is_identifier_byte}
 use Rattle.mt_text_spec.specs.Registries.{AreDistinct}
-use Rattle.mt_file_spec.specs.RegistryFile.{Keyword, Attribute, Structure, Dynamic, FromAttr, WsAttr, Statement, Line, File, LineAt, RegistryCause, Syntax, Twice, TooMany, UnknownMapper, UnknownBase, IsRefused, NoName, IsCause, HasCause, Refused, Misstated, IsFaultless, statement_of, statements_of, same_keyword, is_declaring, gives, repeats, attributes_of, file_of}
+use Rattle.mt_file_spec.specs.RegistryFile.{Keyword, Attribute, Structure, Dynamic, FromAttr, WsAttr, Statement, File, Syntax, Twice, TooMany, UnknownMapper, NoName, IsCause, Refused, Misstated, IsFaultless, statements_of, same_keyword, is_declaring, gives, repeats, attributes_of, file_of}
 use Rattle.mt_vertical.specs.Misstated.{AreUnblamed}
 use Rattle.mt_vertical.specs.Sound.{IsNamed, IsKnown, IsSound}
-use Rattle.mt_vertical.proofs.Splits.{no_split, All-split}
+use Rattle.mt_vertical.proofs.Splits.{All-split}
 use Rattle.mt_vertical.proofs.RegistryFaults.{stated_at}
 
 -- ## Keywords

@@ -1,7 +1,7 @@
 -- A registry file has one answer.
 use Rattle.std.proofs.Common.{◌≡◌, ℕ, zero, suc, ◌<◌, ◌≤◌, List, sym, ◌∙◌, ap, subst, refl, arith}
 use Rattle.mt_text_spec.specs.Registries.{Registry, base_count}
-use Rattle.mt_file_spec.specs.RegistryFile.{RegistryCause, Syntax, Twice, TooMany, UnknownMapper, UnknownBase, rank, FirstRegistryFault, ReadsRegistry, LacksBase, HasCause, file_of}
+use Rattle.mt_file_spec.specs.RegistryFile.{RegistryCause, Syntax, Twice, TooMany, UnknownMapper, UnknownBase, rank, FirstRegistryFault, ReadsRegistry, HasCause, file_of}
 use Rattle.mt_vertical.specs.RegistryErrors.{IsRefusal}
 use Rattle.mt_vertical.specs.declared.registry.RegistryError.{RegistryError}
 use Rattle.mt_vertical.specs.declared.registry.RegistryError.TheVariants as error

@@ -1,11 +1,11 @@
 -- Lines of a registry file that are refused, and what is so between two lines.
-use Rattle.std.proofs.Common.{ℕ, ◌≡◌, ◌+◌, ◌≤◌, ◌⊎◌, inl, inr, Bool, true, false, List, [], ◌∷◌, ◌++◌, length, refl, sym, ◌∙◌, ap, subst, arith, append_assoc, Option, None, Some}
-use Rattle.std.specs.Prelude.{IsUtf8, IsTrue}
-use Rattle.std.specs.List.{All, cons_option}
+use Rattle.std.proofs.Common.{ℕ, ◌≡◌, ◌+◌, ◌≤◌, ◌⊎◌, inl, inr, Bool, true, List, [], ◌∷◌, ◌++◌, length, refl, sym, ◌∙◌, ap, subst, arith, append_assoc, Option, None, Some}
+use Rattle.std.specs.Prelude.{IsTrue}
+use Rattle.std.specs.List.{cons_option}
 use Rattle.std.proofs.lemmas.List.Elements.{All-cons, All-nil}
-use Rattle.mt_file_spec.specs.RegistryFile.{Form, Skipped, Closing, Entry, Formless, Block, Effect, Statement, Line, IsRefused, NoForm, NotUtf8, NoName, Stray, Unopened, TooDeep, form_of, effect_of, stated, statement_in, statement_of, statements_of, lines_from, behind_all, behind, is_declaring, keyword_of}
+use Rattle.mt_file_spec.specs.RegistryFile.{Form, Entry, Block, Effect, Statement, Line, IsRefused, NoForm, NotUtf8, NoName, Stray, Unopened, TooDeep, form_of, stated, statement_in, statement_of, statements_of, lines_from, behind_all, behind, is_declaring, keyword_of}
 use Rattle.mt_text_spec.specs.Words.{IsIdentifier}
-use Rattle.mt_vertical.specs.ReadLines.{IsBadValue, IsBadPlace, IsUnnamed, Refuses, Notes, FirstRefused, IsFirstRefused, form_effect, with_option}
+use Rattle.mt_vertical.specs.ReadLines.{IsBadValue, IsBadPlace, IsUnnamed, Refuses, FirstRefused, IsFirstRefused, form_effect, with_option}
 
 abbrev line_at : ℕ → List ℕ → List Block → Line
 line_at number text open_blocks = record { number = number; text = text; blocks = open_blocks }

@@ -1,20 +1,20 @@
 -- A registry file that has no fault declares a valid registry.
-use Rattle.std.proofs.Common.{ℕ, ◌≡◌, ◌+◌, ◌<◌, ◌≤◌, ◌⊎◌, inl, inr, Bool, true, false, cond, ◌&&◌, ◌||◌, List, [], ◌∷◌, ◌++◌, length, map, refl, sym, ◌∙◌, ap, subst, arith, nat_eq, Option, None, Some, is_some, option_map, if◌then◌else◌}
+use Rattle.std.proofs.Common.{ℕ, ◌≡◌, ◌<◌, ◌≤◌, inl, inr, Bool, true, false, cond, ◌&&◌, ◌||◌, List, [], ◌∷◌, length, map, refl, sym, ◌∙◌, ap, subst, arith, nat_eq, Option, None, Some, is_some, option_map, if◌then◌else◌}
 use Rattle.std.specs.Prelude.{slice_get, codes}
-use Rattle.std.specs.List.{All, filter, find, list_any, count_by}
+use Rattle.std.specs.List.{All, filter, find, list_any}
 use Rattle.std.specs.Cmp.Lexicographic.{pointwise}
-use Rattle.std.proofs.lemmas.Bool.{cases_Bool, cases_lt}
+use Rattle.std.proofs.lemmas.Bool.{cases_lt}
 use Rattle.std.proofs.lemmas.List.{length-map}
-use Rattle.std.proofs.lemmas.List.Elements.{All-nil, All-cons, All-map, All-filter, filter_passes}
+use Rattle.std.proofs.lemmas.List.Elements.{All-map, All-filter, filter_passes}
 use Rattle.std.proofs.lemmas.List.Folds.{find_at}
 use Rattle.std.proofs.lemmas.List.Sums.{count_by-le-length}
 use Rattle.std.proofs.lemmas.Option.{slice_get-map, slice_get_within}
 use Rattle.mt_text_spec.specs.Words.{IsIdentifier}
-use Rattle.mt_text_spec.specs.Registries.{Attr, Kind, Registry, ValidAttr, ValidKind, ValidRegistry, IsBaseAt, is_base, base_count, attr_names, kind_names, AreDistinct}
-use Rattle.mt_file_spec.specs.RegistryFile.{Keyword, Attribute, Structure, Dynamic, FromAttr, WsAttr, Statement, File, RegistryCause, Syntax, Twice, TooMany, UnknownMapper, UnknownBase, IsFaultless, IsBaseless, NoBase, NoFromAttr, NoSuchName, IsBaseName, IsDeclared, statements_of, gives, declares, attributes_of, structures_of, number_of, attr_with, attr_of, kind_of, ws_attr_with, registry_of, file_of, is_declaring}
+use Rattle.mt_text_spec.specs.Registries.{Registry, ValidAttr, ValidKind, ValidRegistry, IsBaseAt, is_base, base_count, attr_names, kind_names, AreDistinct}
+use Rattle.mt_file_spec.specs.RegistryFile.{Keyword, Attribute, Structure, Dynamic, FromAttr, WsAttr, Statement, File, UnknownMapper, UnknownBase, IsFaultless, NoBase, NoFromAttr, NoSuchName, IsBaseName, IsDeclared, statements_of, gives, declares, attributes_of, structures_of, number_of, attr_with, attr_of, kind_of, ws_attr_with, registry_of, file_of, is_declaring}
 use Rattle.mt_vertical.specs.Misstated.{AreUnblamed}
 use Rattle.mt_vertical.specs.Sound.{IsNamed}
-use Rattle.mt_vertical.proofs.Splits.{Found, found}
+use Rattle.mt_vertical.proofs.Splits.{found}
 use Rattle.mt_vertical.proofs.RegistryGroups.{given_keyword, given_place, group_in, IsGroup, names_in, named_statements, unblamed}
 
 -- ## What is found

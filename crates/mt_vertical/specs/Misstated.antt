@@ -1,5 +1,5 @@
 -- What contracts see of the causes of statements, and which is the first.
-use Rattle.std.specs.Prelude.{ℕ, ◌≡◌, ◌≤◌, ◌==◌, nat_lt, if◌then◌else◌, List, ◌∷◌, ◌++◌, Option, None, Some, option_map}
+use Rattle.std.specs.Prelude.{ℕ, ◌≡◌, ◌≤◌, ◌==◌, nat_lt, if◌then◌else◌, List, ◌∷◌, ◌++◌, Option, None, Some}
 use Rattle.mt_file_spec.specs.RegistryFile.{RegistryCause, Syntax, Twice, TooMany, UnknownMapper, UnknownBase, rank, Statement, IsCause}
 use Rattle.mt_vertical.specs.declared.registry.causes.Cause.{Cause as RustCause}
 use Rattle.mt_vertical.specs.declared.registry.causes.Cause.TheVariants as cause

@@ -1,5 +1,5 @@
 -- What contracts see of keywords and blocks.
-use Rattle.std.specs.Prelude.{Option, None, Some, option_map}
+use Rattle.std.specs.Prelude.{Option, option_map}
 use Rattle.mt_file_spec.specs.RegistryFile.{Keyword, Attribute, Structure, Dynamic, FromAttr, WsAttr, Block, Ignored, OfAttribute, OfStructure, Other, Effect}
 use Rattle.mt_vertical.specs.declared.registry.block.Keyword.{Keyword as RustKeyword}
 use Rattle.mt_vertical.specs.declared.registry.block.Keyword.TheVariants as keyword

@@ -1,6 +1,4 @@
-use Rattle.std.proofs.Common.{subst, sym, ◌∙◌, List, arith}
-use Rattle.mt_file_spec.specs.RegistryFile.{Statement}
-use Rattle.mt_vertical.specs.Sound.{IsSound}
+use Rattle.std.proofs.Common.{◌∙◌, arith}
 use Rattle.mt_vertical.proofs.RegistryGroups.{sound_of}
 use Rattle.std.proofs.lemmas.Result.{err_from_is_err_and}
 use Rattle.mt_vertical.proofs.RegistryLaws.{only_memory}

@@ -1,4 +1,4 @@
-use Rattle.std.proofs.Common.{arith, length, sym, ◌∙◌, ap, ◌≡◌, get_or, List, ℕ}
+use Rattle.std.proofs.Common.{arith, length, ◌∙◌, ap, get_or, List, ℕ}
 use Rattle.mt_vertical.proofs.registry.build.mapper_of.Goals as goal
 
 pub unreachable-requires : goal.unreachable-requires

@@ -1,4 +1,4 @@
-use Rattle.std.proofs.Common.{ap, sym, ◌∙◌, refl}
+use Rattle.std.proofs.Common.{ap}
 use Rattle.mt_vertical.specs.SeenForm.{form_seen}
 use Rattle.mt_vertical.proofs.RegistryLines.{at_entry, entry_refused, entry_placed}
 use Rattle.mt_vertical.proofs.registry.lines.Reader.is_refused.Goals as goal

@@ -1,4 +1,3 @@
-use Rattle.std.proofs.Common.{sym}
 use Rattle.mt_vertical.proofs.RegistryLines.{noted, passed}
 use Rattle.mt_vertical.proofs.registry.lines.Reader.judge.Goals as goal
 
