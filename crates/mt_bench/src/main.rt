@@ -61,18 +61,6 @@ fn measure(rt: &HostRuntime, input: &Input) -> io::Result<()> {
     )?;
     compare(
         rt,
-        "ids of a pattern, 50,000 values / ends_with",
-        || work::accept(alloc, input, ".*7"),
-        || work::compare_ends(input),
-    )?;
-    compare(
-        rt,
-        "ids of a plain word, 50,000 values / ends_with",
-        || work::accept(alloc, input, "w77"),
-        || work::compare_ends(input),
-    )?;
-    compare(
-        rt,
         "log_dice / product",
         || work::score(input),
         || work::product(input),

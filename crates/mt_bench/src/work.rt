@@ -1,8 +1,7 @@
 //! The workloads, over one million items each. What they answer is a sum, so that no work can be left out.
 
 use mt_base::{List, NoMemory};
-use mt_lexicon::{Lexicon, LexiconBuilder};
-use mt_pattern::{RegexShop, ids};
+use mt_lexicon::LexiconBuilder;
 use mt_postings::{BitWriter, Postings};
 use mt_score::log_dice;
 use std::alloc::Global;
@@ -22,7 +21,6 @@ pub struct Input {
     positions: Postings,
     others: Postings,
     words: Vec<String>,
-    lexicon: Lexicon,
     picks: Vec<u32>,
 }
 
@@ -43,7 +41,6 @@ impl Input {
         for i in 0..WORDS {
             words.push(format!(in alloc; "w{i}")?)?;
         }
-        let lexicon = lexicon_of(alloc, &words)?;
         let code = code_of(alloc, &gaps)?;
         let positions = list_of(alloc, &code)?;
         let others = list_of(alloc, &code_of(alloc, &picks)?)?;
@@ -53,24 +50,9 @@ impl Input {
             positions,
             others,
             words,
-            lexicon,
             picks,
         })
     }
-}
-
-/// The lexicon of these words.
-fn lexicon_of(alloc: Global, words: &[String]) -> Result<Lexicon, NoMemory> {
-    let mut builder = LexiconBuilder::new(alloc)?;
-    let mut added = 0u32;
-    for word in words {
-        if added == WORDS {
-            break;
-        }
-        builder.add(word)?;
-        added += 1;
-    }
-    Ok(builder.finish()?.0)
 }
 
 /// The code of a list with these gaps, each at least 1.
@@ -183,26 +165,6 @@ pub fn product(input: &Input) -> Result<u64, NoMemory> {
     let mut total = 1u64;
     for gap in &input.gaps {
         total = total.wrapping_mul(u64::from(*gap)).wrapping_add(1);
-    }
-    Ok(total)
-}
-
-/// Marks the words that a pattern accepts.
-pub fn accept(alloc: Global, input: &Input, pattern: &str) -> Result<u64, NoMemory> {
-    let mut shop = RegexShop::new(alloc);
-    match ids(alloc, &input.lexicon, pattern, &mut shop) {
-        Ok(set) => Ok(u64::from(set.has(7))),
-        Err(_) => Err(NoMemory),
-    }
-}
-
-/// Counts the words that end in a digit.
-pub fn compare_ends(input: &Input) -> Result<u64, NoMemory> {
-    let mut total = 0u64;
-    for word in &input.words {
-        if word.as_str().ends_with('7') {
-            total = total.wrapping_add(1);
-        }
     }
     Ok(total)
 }

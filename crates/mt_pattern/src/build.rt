@@ -5,6 +5,7 @@ ghost use Rattle.mt_query_spec.specs.Patterns.{IsPattern, MayBeNoPattern, MarksA
 ghost use Rattle.mt_pattern.specs.Shops.{RefusedOne};
 
 use super::id_set::IdSet;
+use super::plain::{is_plain, mark_itself};
 use super::shop::{PatternShop, ShopError};
 use mt_base::NoMemory;
 use mt_lexicon::Lexicon;
@@ -72,7 +73,7 @@ fn in_marks(alloc: Global, text: &str) -> Result<String, NoMemory>
     Ok(format!(in alloc; r"\A(?:{text})\z")?)
 }
 
-/// The numbers of the values that a text accepts as a pattern.
+/// The numbers of the values that a text accepts as a pattern. A text of plain characters accepts itself alone, and is looked up.
 pub fn ids<P: PatternShop>(
     alloc: Global,
     lexicon: &Lexicon,
@@ -86,5 +87,8 @@ pub fn ids<P: PatternShop>(
     ensures kept { ¬ IsErrOf result IdsError.Refused → P.refused shop.new ≡ P.refused shop.old }
 {
     let mut pattern = whole_pattern(alloc, text, shop)?;
+    if is_plain(text) {
+        return Ok(mark_itself(alloc, lexicon, text)?);
+    }
     Ok(shop.accepts_each(alloc, &mut pattern, lexicon)?)
 }

@@ -8,6 +8,7 @@
 mod build;
 mod fussy;
 mod id_set;
+mod plain;
 mod regexes;
 mod shop;
 #[cfg(test)]
