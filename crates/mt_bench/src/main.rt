@@ -3,6 +3,7 @@
 //! Without the word `all` it measures nothing, so that what it prints is the same at every run.
 #![tactic(auto)]
 
+mod patterns;
 mod work;
 
 use mt_base::NoMemory;
@@ -20,7 +21,11 @@ fn main(rt: HostRuntime) -> io::Result<()> {
         return println!(rt; "mt_bench all: measures the crates");
     }
     match Input::new(rt.alloc()) {
-        Ok(input) => measure(&rt, &input),
+        Ok(input) => measure(&rt, &input)?,
+        Err(NoMemory) => println!(rt; "memory was wanted")?,
+    }
+    match patterns::Input::new(rt.alloc()) {
+        Ok(input) => measure_patterns(&rt, &input),
         Err(NoMemory) => println!(rt; "memory was wanted"),
     }
 }
@@ -65,6 +70,20 @@ fn measure(rt: &HostRuntime, input: &Input) -> io::Result<()> {
         || work::score(input),
         || work::product(input),
     )
+}
+
+/// Measures which of 50,000 values a pattern accepts.
+fn measure_patterns(rt: &HostRuntime, input: &patterns::Input) -> io::Result<()> {
+    let alloc = rt.alloc();
+    for pattern in [".*7", "w[0-9]*7", "(w1|w2).*", "w777"] {
+        compare(
+            rt,
+            "values of a pattern / ends_with",
+            || patterns::accept(alloc, input, pattern),
+            || patterns::count_ends(input),
+        )?;
+    }
+    Ok(())
 }
 
 /// Measures a workload and a plain loop beside it.
