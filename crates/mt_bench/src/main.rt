@@ -5,6 +5,7 @@
 #![tactic(auto)]
 
 mod lexicons;
+mod patterns;
 mod scripts;
 mod work;
 
@@ -28,6 +29,10 @@ fn main(rt: HostRuntime) -> io::Result<()> {
     }
     match lexicons::Input::new(rt.alloc()) {
         Ok(input) => measure_lexicons(&rt, &input)?,
+        Err(NoMemory) => println!(rt; "memory was wanted")?,
+    }
+    match patterns::Input::new(rt.alloc()) {
+        Ok(input) => measure_patterns(&rt, &input)?,
         Err(NoMemory) => println!(rt; "memory was wanted")?,
     }
     measure_scripts(&rt)
@@ -108,6 +113,20 @@ fn measure_scripts(rt: &HostRuntime) -> io::Result<()> {
             "read by 64 KiB / extend",
             || scripts::read_pieces(alloc, pieces),
             || scripts::push_pieces(alloc, pieces),
+        )?;
+    }
+    Ok(())
+}
+
+/// Measures which of 50,000 values a pattern accepts.
+fn measure_patterns(rt: &HostRuntime, input: &patterns::Input) -> io::Result<()> {
+    let alloc = rt.alloc();
+    for pattern in [".*7", "w[0-9]*7", "(w1|w2).*", "w777"] {
+        compare(
+            rt,
+            "values of a pattern / ends_with",
+            || patterns::accept(alloc, input, pattern),
+            || patterns::count_ends(input),
         )?;
     }
     Ok(())

@@ -1,0 +1,158 @@
+-- Bits in words: none at first, one set, one read.
+use Rattle.std.proofs.Common.{◌≡◌, ◌≢◌, ℕ, zero, suc, ◌+◌, ◌*◌, ◌/◌, ◌%◌, ◌^◌, ◌<◌, ◌≤◌, ◌==◌, ◌⊎◌, inl, inr, Bool, true, false, List, ◌∷◌, length, get_or, set, replicate, slice_get, Some, bit_and, bit_or, ◌↔◌, refl, sym, ◌∙◌, ap, ap₂, arith, w64}
+use Rattle.std.specs.Int.{bit_at}
+use Rattle.std.proofs.lemmas.Bool.{cases_eq, cases_lt}
+use Rattle.std.proofs.lemmas.List.{length-replicate, get_or-replicate, get_or-set_same, get_or-set_other, length-set, get_or_default, get_or_past}
+use Rattle.std.proofs.Math.Nat.{add-zero}
+use Rattle.std.proofs.lemmas.Option.{slice_get_within}
+use Rattle.std.proofs.lemmas.Nat.Bits.{bit_at-zero, shr_and_one, bit_at_set_same, bit_at_set_other}
+use Rattle.mt_pattern.specs.Marks.{is_set, marks_from, AreMarks}
+
+-- ---- marks
+
+pub length-marks : (words : List ℕ) (id count : ℕ) → length (marks_from words id count) ≡ count
+length-marks words id zero = refl
+length-marks words id (suc count) = omega (arith, length-marks words (id + 1) count)
+
+-- the mark at a place
+pub mark_at : (words : List ℕ) (id count k : ℕ) → k < count → slice_get (marks_from words id count) k ≡ Some (is_set words (id + k))
+mark_at words id zero k l = absurd (omega arith)
+mark_at words id (suc count) zero l = ap (λ n. Some (is_set words n)) (sym (add-zero id))
+mark_at words id (suc count) (suc k) l =
+    let e : id + 1 + k ≡ id + suc k = omega arith in
+    mark_at words (id + 1) count k (omega arith) ∙ ap (λ n. Some (is_set words n)) e
+
+-- words with the same bits from a number on have the same marks
+same_marks : (words others : List ℕ) (id count : ℕ) → ((j : ℕ) → id ≤ j → is_set words j ≡ is_set others j) → marks_from words id count ≡ marks_from others id count
+same_marks words others id zero h = refl
+same_marks words others id (suc count) h = ap₂ ◌∷◌ (h id (omega arith)) (same_marks words others (id + 1) count (λ j l. h j (omega arith)))
+
+-- words that differ in one bit, which is set now
+pub one_more : (words others : List ℕ) (id count k : ℕ) → k < count → is_set others (id + k) ≡ true → ((j : ℕ) → j ≢ id + k → is_set others j ≡ is_set words j) →
+    marks_from others id count ≡ set (marks_from words id count) k true
+one_more words others id zero k l here else = absurd (omega arith)
+one_more words others id (suc count) zero l here else =
+    let e : id + 0 ≡ id = omega arith in
+    ap₂ ◌∷◌ (sym (ap (is_set others) e) ∙ here) (same_marks others words (id + 1) count (λ j m. else j (λ f. absurd (omega arith))))
+one_more words others id (suc count) (suc k) l here else =
+    let e : id + suc k ≡ id + 1 + k = omega arith in
+    ap₂ ◌∷◌ (else id (λ f. absurd (omega arith))) (one_more words others (id + 1) count k (omega arith) (sym (ap (is_set others) e) ∙ here) (λ j m. else j (λ f. m (f ∙ e))))
+
+-- ---- one bit
+
+-- a word that is set at a bit
+abbrev pub with_bit : List ℕ → ℕ → List ℕ
+with_bit words id = set words (id / 64) (bit_or (get_or words (id / 64) 0) (1 * 2 ^ (id % 64) % 2 ^ 64))
+
+small : (id : ℕ) → id % 64 < 64
+small id = omega arith
+
+pub set_here : (words : List ℕ) (id : ℕ) → id / 64 < length words → is_set (with_bit words id) id ≡ true
+set_here words id l =
+    let e = get_or-set_same words (id / 64) (bit_or (get_or words (id / 64) 0) (1 * 2 ^ (id % 64) % 2 ^ 64)) 0 l in
+    ap (λ w. bit_at w (id % 64) == 1) e ∙ ap (λ b. b == 1) (bit_at_set_same w64 (get_or words (id / 64) 0) (id % 64) (small id))
+
+pub others_stay : (words : List ℕ) (id j : ℕ) → id / 64 < length words → j ≢ id → is_set (with_bit words id) j ≡ is_set words j
+others_stay words id j l n = by (cases_eq (j / 64) (id / 64))
+  where
+    new : ℕ
+    new = bit_or (get_or words (id / 64) 0) (1 * 2 ^ (id % 64) % 2 ^ 64)
+
+    by : (j / 64 ≡ id / 64) ⊎ (j / 64 ≢ id / 64) → is_set (with_bit words id) j ≡ is_set words j
+    by (inr other) = ap (λ w. bit_at w (j % 64) == 1) (get_or-set_other words (id / 64) (j / 64) new 0 other)
+    by (inl same) =
+        let apart : j % 64 ≢ id % 64 = λ e. n (omega arith) in
+        ap (λ k. bit_at (get_or (with_bit words id) k 0) (j % 64) == 1) same
+        ∙ ap (λ w. bit_at w (j % 64) == 1) (get_or-set_same words (id / 64) new 0 l)
+        ∙ ap (λ b. b == 1) (bit_at_set_other w64 (get_or words (id / 64) 0) (id % 64) (small id) (j % 64) apart)
+        ∙ sym (ap (λ k. bit_at (get_or words k 0) (j % 64) == 1) same)
+
+-- ---- none
+
+abbrev pub zeros : ℕ → List ℕ
+zeros n = replicate n 0
+
+length-zeros : (n : ℕ) → length (zeros n) ≡ n
+length-zeros n = let none : ℕ = 0 in length-replicate n none
+
+zeros_at : (n k : ℕ) → get_or (zeros n) k 0 ≡ 0
+zeros_at n k = by (cases_lt k n)
+  where
+    by : (k < n) ⊎ (n ≤ k) → get_or (zeros n) k 0 ≡ 0
+    by (inl l) = get_or-replicate n k 0 0 l
+    by (inr l) = get_or_past (zeros n) k 0 (omega (arith, length-zeros n))
+
+none_set : (n id : ℕ) → is_set (zeros n) id ≡ false
+none_set n id = ap (λ w. bit_at w (id % 64) == 1) (zeros_at n (id / 64)) ∙ ap (λ b. b == 1) (bit_at-zero (id % 64))
+
+pub no_marks : (n id count : ℕ) → marks_from (zeros n) id count ≡ replicate count false
+no_marks n id zero = refl
+no_marks n id (suc count) = ap₂ ◌∷◌ (none_set n id) (no_marks n (id + 1) count)
+
+pub none_AreMarks : (words : List ℕ) (n count : ℕ) → words ≡ zeros n → count ≤ 64 * n → AreMarks words count
+none_AreMarks words n count e l = record {
+  room = omega (arith, ap length e, length-zeros n);
+  clear = λ id _. ap (λ w. is_set w id) e ∙ none_set n id;
+}
+
+-- ---- for `insert`
+
+pub inserted : (words new : List ℕ) (count id : ℕ) → AreMarks words count → id < count → new ≡ with_bit words id → marks_from new 0 count ≡ set (marks_from words 0 count) id true
+inserted words new count id are l e =
+    let within : id / 64 < length words = omega (arith, are.room) in
+    let z : 0 + id ≡ id = omega arith in
+    ap (λ w. marks_from w 0 count) e ∙ one_more words (with_bit words id) 0 count id l (ap (is_set (with_bit words id)) z ∙ set_here words id within) (λ j n. others_stay words id j within (λ f. n (f ∙ sym z)))
+
+pub inserted_AreMarks : (words new : List ℕ) (count id : ℕ) → AreMarks words count → id < count → new ≡ with_bit words id → AreMarks new count
+inserted_AreMarks words new count id are l e =
+    let within : id / 64 < length words = omega (arith, are.room) in
+    record {
+      room = omega (arith, are.room, ap length e, length-set words (id / 64) (bit_or (get_or words (id / 64) 0) (1 * 2 ^ (id % 64) % 2 ^ 64)));
+      clear = λ j m. ap (λ w. is_set w j) e ∙ others_stay words id j within (λ f. absurd (omega arith)) ∙ are.clear j m;
+    }
+
+-- ---- for `has`
+
+-- a mark that is there and set is that of a bit that is set
+pub is_marked : (words : List ℕ) (count id : ℕ) → AreMarks words count → is_set words id ≡ true → slice_get (marks_from words 0 count) id ≡ Some true
+is_marked words count id are on = by (cases_lt id count)
+  where
+    z : (id : ℕ) → 0 + id ≡ id
+    z id = omega arith
+
+    by : (id < count) ⊎ (count ≤ id) → slice_get (marks_from words 0 count) id ≡ Some true
+    by (inl l) = mark_at words 0 count id l ∙ ap (λ b. Some b) (ap (is_set words) (z id) ∙ on)
+    by (inr l) = let no = are.clear id l in cc
+
+pub is_bit : (words : List ℕ) (count id : ℕ) → slice_get (marks_from words 0 count) id ≡ Some true → is_set words id ≡ true
+is_bit words count id on =
+    let l : id < count = omega (arith, length-marks words 0 count, slice_get_within (marks_from words 0 count) id true on) in
+    let e = mark_at words 0 count id l in
+    let z : 0 + id ≡ id = omega arith in
+    let same : is_set words (0 + id) ≡ true = cc in
+    ap (is_set words) (sym z) ∙ same
+
+pub with_bit_of : (words : List ℕ) (count id word : ℕ) → AreMarks words count → id < count → word ≡ get_or words (id / 64) word →
+    set words (id / 64) (bit_or word (1 * 2 ^ (id % 64) % 2 ^ 64)) ≡ with_bit words id
+with_bit_of words count id word are l e =
+    let within : id / 64 < length words = omega (arith, are.room) in
+    ap (λ w. set words (id / 64) (bit_or w (1 * 2 ^ (id % 64) % 2 ^ 64))) (e ∙ get_or_default words (id / 64) word 0 within)
+
+-- what is read of the word of a number
+pub reads : (words seen : List ℕ) (count id word : ℕ) (marks : List Bool) → AreMarks words count → marks_from words 0 count ≡ marks → seen ≡ words → word ≡ get_or seen (id / 64) 0 →
+    (bit_and (word / 2 ^ (id % 64)) 1 == 1) ≡ true ↔ slice_get marks id ≡ Some true
+reads words seen count id word marks are view same e =
+    let here : (bit_and (word / 2 ^ (id % 64)) 1 == 1) ≡ is_set words id =
+    ap (λ b. b == 1) (shr_and_one word (id % 64)) ∙ ap (λ w. bit_at w (id % 64) == 1) (e ∙ ap (λ w. get_or w (id / 64) 0) same) in (
+      λ h. ap (λ m. slice_get m id) (sym view) ∙ is_marked words count id are (sym here ∙ h),
+      λ h. here ∙ is_bit words count id (ap (λ m. slice_get m id) view ∙ h),
+    )
+
+pub reads_none : (words seen : List ℕ) (count id : ℕ) (marks : List Bool) → AreMarks words count → marks_from words 0 count ≡ marks → seen ≡ words → length seen ≤ id / 64 →
+    (false ≡ true) ↔ slice_get marks id ≡ Some true
+reads_none words seen count id marks are view same past = (
+  λ h. cc,
+  λ h.
+      let l : id < count = omega (arith, length-marks words 0 count, slice_get_within (marks_from words 0 count) id true (ap (λ m. slice_get m id) view ∙ h)) in
+      absurd (omega (arith, are.room, ap length same)),
+)

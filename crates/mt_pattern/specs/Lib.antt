@@ -1,0 +1,4 @@
+pub mod Marks
+pub mod Plain
+pub mod Shops
+pub mod Searches

@@ -1,0 +1,58 @@
+//! Patterns that accept one value: themselves.
+
+ghost use Rattle.std.specs.Prelude.{◌≡◌, ◌<◌, IsTrue, IfOk, IfSome, IfNone, slice_get, Some, Contains};
+ghost use Rattle.std.specs.List.{AllPass};
+ghost use Rattle.mt_query_spec.specs.Patterns.{IsPattern, MarksAccepted, wrapped};
+ghost use Rattle.mt_pattern.specs.Plain.{is_plain_byte};
+
+use super::id_set::IdSet;
+use mt_base::{NoMemory, Steps, Value};
+use mt_lexicon::Lexicon;
+use std::alloc::Global;
+use std::marker::Brand;
+use std::sync::ledger::{Blank, Ledger};
+
+/// Whether each character of a text stands for itself in a pattern: it is an ASCII letter or digit, or beyond ASCII.
+pub fn is_plain(text: &str) -> bool
+    ensures { IsTrue result → AllPass is_plain_byte text.now }
+{
+    text.as_bytes()
+        .iter()
+        .all(|byte| byte.is_ascii_alphanumeric() || *byte >= 128)
+}
+
+/// Marks the value that such a text is, where the lexicon has it.
+pub fn mark_itself(alloc: Global, lexicon: &Lexicon, text: &str) -> Result<IdSet, NoMemory>
+    requires plain { AllPass is_plain_byte text.now }
+    requires alone { IsPattern text.now }
+    requires whole { IsPattern (wrapped text.now) }
+    ensures { IfOk result (λ marks. MarksAccepted text.now lexicon.now marks) }
+{
+    let value = Value::new(alloc, text)?;
+    let mut marks = IdSet::new(alloc, lexicon.len())?;
+    let Some(id) = place_of(lexicon, &value) else {
+        return Ok(marks);
+    };
+    marks.insert(id);
+    Ok(marks)
+}
+
+/// The number of a value.
+fn place_of(lexicon: &Lexicon, value: &Value) -> Option<u32>
+    ensures found { IfSome result (λ id. slice_get lexicon.now id ≡ Some value.now) }
+    ensures none { IfNone result (¬ Contains lexicon.now value.now) }
+{
+    place_by::<Brand>(lexicon, value, Blank::new(1))
+}
+
+/// The number of a value. The blank names a ledger for the steps of this search alone.
+fn place_by<L: Ledger>(lexicon: &Lexicon, value: &Value, blank: Blank) -> Option<u32>
+    requires name { blank.name ≡ L.name }
+    requires parts { blank.parts ≡ L.parts }
+    requires some { 0 < L.parts }
+    ensures found { IfSome result (λ id. slice_get lexicon.now id ≡ Some value.now) }
+    ensures none { IfNone result (¬ Contains lexicon.now value.now) }
+{
+    let mut steps = Steps::<L>::new(blank);
+    lexicon.find(value.as_str(), &mut steps)
+}

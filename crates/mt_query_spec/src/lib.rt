@@ -1,0 +1,2 @@
+//! What a query means: definitions alone, which the contracts of other crates cite.
+#![tactic(auto)]
