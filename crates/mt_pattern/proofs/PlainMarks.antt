@@ -17,7 +17,7 @@ use Rattle.regex.specs.Patterns.{find_str, default_config}
 use Rattle.regex_syntax.specs.Grammar.{Names, read}
 use Rattle.regex_syntax.specs.Verdict.{is_meta, escaped_text}
 use Rattle.mt_store_spec.specs.Lexicons.{IsBelow, IsAscending}
-use Rattle.mt_query_spec.specs.Patterns.{IsPattern, Accepts, MarksAccepted, finds, finds_read, reading, wrapped}
+use Rattle.mt_pattern_spec.specs.Patterns.{IsPattern, Accepts, MarksAccepted, finds, finds_read, reading, wrapped}
 use Rattle.mt_pattern.specs.Plain.{is_plain_byte}
 use Rattle.mt_pattern.proofs.PlainReading.{whole, marked, is_read_as}
 use Rattle.mt_pattern.proofs.PlainMatching.{only_itself, itself_too}

@@ -10,7 +10,7 @@ use Rattle.regex_syntax.specs.Brackets.{Nested}
 use Rattle.regex_syntax.specs.Grammar.{Names, group_count}
 use Rattle.regex_syntax.specs.declared.error.ErrorKind.{ErrorKind}
 use Rattle.regex_syntax.specs.declared.error.ErrorKind.TheVariants.{OutOfMemory}
-use Rattle.mt_query_spec.specs.Patterns.{reading, finds_read, finds, IsPattern, IsTooDeep}
+use Rattle.mt_pattern_spec.specs.Patterns.{reading, finds_read, finds, IsPattern, IsTooDeep}
 
 -- what `Reads` says of the reading
 abbrev ReadAs : Option (Nested Re × Names) → Re → Names → Type 0

@@ -3,7 +3,7 @@ use Rattle.std.specs.Prelude.{ℕ, ◌≡◌, List, Bool}
 use Rattle.regex.specs.Patterns.{Re, default_config}
 use Rattle.regex.specs.Strings.{regex_source, regex_config, regex_pattern, IsReadFromSource}
 use Rattle.regex.specs.declared.string.regex.Regex.{Regex}
-use Rattle.mt_query_spec.specs.Patterns.{finds}
+use Rattle.mt_pattern_spec.specs.Patterns.{finds}
 
 -- of each text that `regex` has built into this expression, whether it has a match in the value
 abbrev pub Tells : Re → List ℕ → Bool → Type 0

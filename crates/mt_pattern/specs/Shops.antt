@@ -1,6 +1,6 @@
 -- What shops refuse, and why there is no set of numbers.
 use Rattle.std.specs.Prelude.{ℕ, ◌≡◌, ◌⊎◌, List, [], ◌∷◌, ◌++◌}
-use Rattle.mt_query_spec.specs.Patterns.{wrapped}
+use Rattle.mt_pattern_spec.specs.Patterns.{wrapped}
 use Rattle.mt_pattern.specs.declared.shop.ShopError.{ShopError}
 use Rattle.mt_pattern.specs.declared.shop.ShopError.TheVariants as shop
 use Rattle.mt_pattern.specs.declared.build.IdsError.{IdsError}

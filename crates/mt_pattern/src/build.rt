@@ -1,7 +1,7 @@
 //! Patterns that are to match whole values, and the values that they accept.
 
 ghost use Rattle.std.specs.Prelude.{◌≡◌, string_bytes, IfOk, OnOk, IsErrOf};
-ghost use Rattle.mt_query_spec.specs.Patterns.{IsPattern, MayBeNoPattern, MarksAccepted, wrapped};
+ghost use Rattle.mt_pattern_spec.specs.Patterns.{IsPattern, MayBeNoPattern, MarksAccepted, wrapped};
 ghost use Rattle.mt_pattern.specs.Shops.{RefusedOne};
 
 use super::id_set::IdSet;

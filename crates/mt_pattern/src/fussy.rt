@@ -1,7 +1,7 @@
 //! A shop that refuses chosen texts.
 
 ghost use Rattle.std.specs.Prelude.{◌≡◌, ◌↔◌, ◌⊎◌, IsTrue, [], ◌∷◌, ◌++◌, Contains, IfOk, IsErrOf};
-ghost use Rattle.mt_query_spec.specs.Patterns.{IsPattern, IsTooDeep};
+ghost use Rattle.mt_pattern_spec.specs.Patterns.{IsPattern, IsTooDeep};
 
 use super::id_set::IdSet;
 use super::regexes::{Built, RegexShop};

@@ -2,7 +2,7 @@
 
 ghost use Rattle.std.specs.Prelude.{◌≡◌, ◌<◌, IsTrue, IfOk, IfSome, IfNone, slice_get, Some, Contains};
 ghost use Rattle.std.specs.List.{AllPass};
-ghost use Rattle.mt_query_spec.specs.Patterns.{IsPattern, MarksAccepted, wrapped};
+ghost use Rattle.mt_pattern_spec.specs.Patterns.{IsPattern, MarksAccepted, wrapped};
 ghost use Rattle.mt_pattern.specs.Plain.{is_plain_byte};
 
 use super::id_set::IdSet;

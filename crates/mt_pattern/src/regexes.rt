@@ -1,7 +1,7 @@
 //! The shop over `regex`.
 
 ghost use Rattle.std.specs.Prelude.{◌≡◌, ◌⊎◌, ℕ, [], ◌∷◌, ◌++◌, map, IfOk, IsErrOf};
-ghost use Rattle.mt_query_spec.specs.Patterns.{IsPattern, IsTooDeep, finds};
+ghost use Rattle.mt_pattern_spec.specs.Patterns.{IsPattern, IsTooDeep, finds};
 ghost use Rattle.regex.specs.Strings.{matcher_pattern};
 ghost use Rattle.mt_pattern.specs.Searches.{Tells};
 

@@ -1,7 +1,7 @@
 //! The trait of pattern shops.
 
 ghost use Rattle.std.specs.Prelude.{◌≡◌, ℕ, List, [], ◌∷◌, ◌++◌, map, IfOk, IsErrOf};
-ghost use Rattle.mt_query_spec.specs.Patterns.{IsPattern, IsTooDeep, finds};
+ghost use Rattle.mt_pattern_spec.specs.Patterns.{IsPattern, IsTooDeep, finds};
 
 use super::id_set::IdSet;
 use mt_base::NoMemory;

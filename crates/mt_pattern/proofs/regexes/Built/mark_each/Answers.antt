@@ -1,5 +1,5 @@
 use Rattle.std.proofs.Common.{◌≡◌, ◌∙◌, ap, arith}
-use Rattle.mt_query_spec.specs.Patterns.{finds}
+use Rattle.mt_pattern_spec.specs.Patterns.{finds}
 use Rattle.mt_pattern.proofs.Marked.{marked_if, all_marked}
 use Rattle.mt_pattern.proofs.regexes.Built.mark_each.Goals as goal
 

@@ -1,7 +1,7 @@
 -- The values before the number are marked.
 use Rattle.std.proofs.Common.{◌≡◌}
 use Rattle.regex.specs.Strings.{matcher_pattern}
-use Rattle.mt_query_spec.specs.Patterns.{finds}
+use Rattle.mt_pattern_spec.specs.Patterns.{finds}
 use Rattle.mt_pattern.proofs.Marked.{Marked}
 use Rattle.mt_pattern.proofs.regexes.Built.mark_each.Given as goal
 

@@ -1,5 +1,5 @@
 use Rattle.std.proofs.Common.{◌∙◌, ap}
-use Rattle.mt_query_spec.specs.Patterns.{finds}
+use Rattle.mt_pattern_spec.specs.Patterns.{finds}
 use Rattle.mt_pattern.proofs.regexes.RegexShopPatternShop.accepts.Goals as goal
 
 pub returns-clause-found : goal.returns-clause-found

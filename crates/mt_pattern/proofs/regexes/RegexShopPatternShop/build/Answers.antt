@@ -1,5 +1,5 @@
 use Rattle.std.proofs.Common.{subst}
-use Rattle.mt_query_spec.specs.Patterns.{IsPattern}
+use Rattle.mt_pattern_spec.specs.Patterns.{IsPattern}
 use Rattle.mt_pattern.proofs.Reading.{is_pattern, refused}
 use Rattle.mt_pattern.proofs.regexes.RegexShopPatternShop.build.Goals as goal
 
