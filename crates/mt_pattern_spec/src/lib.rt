@@ -1,2 +1,2 @@
-//! What a query means: definitions alone, which the contracts of other crates cite.
+//! Which texts are patterns, and which values a pattern accepts: definitions alone, which the contracts of other crates cite.
 #![tactic(auto)]
