@@ -8,3 +8,5 @@ pub mod RegistryFaults
 pub mod RegistryGroups
 pub mod RegistryValid
 pub mod RegistryLaws
+pub mod Trims
+pub mod RegistryForms

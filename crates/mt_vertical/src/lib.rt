@@ -7,7 +7,7 @@ ghost use Rattle.mt_file_spec.specs.Vertical.{FirstNotPlain, IsPlain, Vertical, 
 mod registry;
 
 use mt_base::{Lines, List, NoMemory, Text, Token, Value};
-pub use registry::laws::{one_answer, one_fault, one_registry};
+pub use registry::laws::{forms_are_written, one_answer, one_fault, one_registry};
 pub use registry::{RegistryError, read_registry};
 use std::alloc::Global;
 use std::str;
