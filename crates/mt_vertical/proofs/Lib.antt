@@ -10,6 +10,7 @@ pub mod OneText
 pub mod Refused
 pub mod RegistryBuild
 pub mod RegistryFaults
+pub mod RegistryForms
 pub mod RegistryGroups
 pub mod RegistryLaws
 pub mod RegistryLines
@@ -20,6 +21,7 @@ pub mod Splits
 pub mod Steps
 pub mod TagSpelling
 pub mod TagValues
+pub mod Trims
 pub mod Utf8
 pub mod ValidTexts
 pub mod Values

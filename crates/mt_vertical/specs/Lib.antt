@@ -4,6 +4,7 @@ pub mod ReadLines
 pub mod Readers
 pub mod Refusals
 pub mod RegistryErrors
+pub mod RegistryForms
 pub mod RegistryLaws
 pub mod SeenBlock
 pub mod SeenForm

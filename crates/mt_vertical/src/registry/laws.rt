@@ -1,5 +1,6 @@
 //! Laws of the definitions that `read_registry` keeps: that they say one thing of each file.
 
+ghost use Rattle.mt_vertical.specs.RegistryForms.{FormsAreWritten};
 ghost use Rattle.mt_vertical.specs.RegistryLaws.{AreApart, OneFault, OneRegistry};
 
 /// No file is read as two registries: this function proves it, and does nothing.
@@ -15,4 +16,9 @@ pub fn one_registry_fault()
 /// No file has two kinds of answer: this function proves it, and does nothing.
 pub fn one_registry_answer()
     ensures { AreApart }
+{}
+
+/// The forms of lines are read as they are written: this function proves it, and does nothing.
+pub fn forms_are_written()
+    ensures { FormsAreWritten }
 {}
