@@ -1,5 +1,5 @@
 -- The input goes on or has ended as before.
-use Rattle.std.proofs.Common.{◌≡◌, false}
+use Rattle.std.proofs.Common.{◌≡◌}
 use Rattle.mt_items.proofs.wanting.take.Given as goal
 
 abbrev pub invariant-loop : goal.invariant-loop
