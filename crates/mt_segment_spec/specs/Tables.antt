@@ -36,9 +36,13 @@ pub record Tables : Type 0 where
 abbrev pub attr_at : Registry → ℕ → Attr
 attr_at registry number = slice_index_or registry.attrs number (base_attr [])
 
--- the value of each token of the texts at a base attribute
+-- the value of each token of the texts at the base attribute that has this place among the base attributes
+abbrev pub column_values : ℕ → List Text → List (List ℕ)
+column_values column corpus = map (λ token. value_of token column) (tokens_of corpus)
+
+-- and at the one with this number
 abbrev pub base_values : Registry → List Text → ℕ → List (List ℕ)
-base_values registry corpus number = map (λ token. value_of token (column_of registry.attrs number)) (tokens_of corpus)
+base_values registry corpus number = column_values (column_of registry.attrs number) corpus
 
 -- what stands in the first list for an attribute without base, and for one with a base the images of what stands for its base
 abbrev pub made_of : (List ℕ → List ℕ) → List (List ℕ) → (ℕ → List (List ℕ)) → Option ℕ → List (List ℕ)
