@@ -1,4 +1,5 @@
 pub mod Known
+pub mod Mappings
 pub mod Numbered
 pub mod Slots
 pub mod Valued

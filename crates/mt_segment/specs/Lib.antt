@@ -1,4 +1,5 @@
 pub mod Counting
 pub mod Ends
+pub mod Mappers
 pub mod Numbered
 pub mod Parts

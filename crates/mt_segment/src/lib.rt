@@ -6,6 +6,7 @@
 
 mod columns;
 mod inverting;
+mod mapped;
 mod numbering;
 mod segment;
 mod structs;
