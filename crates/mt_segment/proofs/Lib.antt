@@ -1,3 +1,4 @@
+pub mod Assembled
 pub mod Known
 pub mod Mappings
 pub mod Numbered

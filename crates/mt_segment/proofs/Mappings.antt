@@ -7,6 +7,7 @@ use Rattle.std.specs.Cmp.Lexicographic.{bytes_decides}
 use Rattle.std.proofs.lemmas.Bool.{cases_lt, cases_eq}
 use Rattle.std.proofs.lemmas.Bool.Decides.{nat_tests}
 use Rattle.std.proofs.lemmas.List.{length-map, length-set, map-set, map_more, get_or-map, get_or-set_same, get_or-set_other, get_or_default}
+use Rattle.std.proofs.lemmas.Simd.{map-map}
 use Rattle.std.proofs.Math.Seq.{map-set_same}
 use Rattle.std.proofs.lemmas.List.Elements.{All-from_get_or}
 use Rattle.std.proofs.lemmas.List.Sums.{position_or_len_is}
@@ -72,6 +73,12 @@ module _ {M : Type 0} (called : M → List ℕ) where
   same_named image mappers at d new f g =
       let it : M → List ℕ × (List ℕ → List ℕ) = λ mapper. (called mapper, image mapper) in
       map-set_same it mappers at new d (ap₂ (λ (a : List ℕ) (b : List ℕ → List ℕ). (a, b)) f g)
+
+  pub same_names : (image : M → List ℕ → List ℕ) (mappers others : List M) → named called image mappers ≡ named called image others → map called mappers ≡ map called others
+  same_names image mappers others e =
+      let first : List ℕ × (List ℕ → List ℕ) → List ℕ = λ p. p.0 in
+      let it : M → List ℕ × (List ℕ → List ℕ) = λ mapper. (called mapper, image mapper) in
+      sym (map-map first it mappers) ∙ ap (map first) e ∙ map-map first it others
 
 -- ---- calls
 

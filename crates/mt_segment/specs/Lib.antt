@@ -1,3 +1,4 @@
+pub mod Building
 pub mod Counting
 pub mod Ends
 pub mod Mappers

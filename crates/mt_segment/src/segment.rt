@@ -2,6 +2,7 @@
 
 ghost use Rattle.std.specs.Prelude.{◌≡◌, ℕ, ◌+◌, ◌<◌, [], length, slice_index_or};
 ghost use Rattle.mt_segment_spec.specs.Tables as spec;
+ghost use Rattle.mt_segment.specs.Ends.{AreEndsOf};
 ghost use Rattle.mt_segment_spec.specs.Tables.{AreTables, first_place, number_at, tables_at, token_count};
 
 use super::structs::SegStruct;
@@ -34,6 +35,25 @@ impl Model for Segment {
 }
 
 impl Segment {
+    /// The segment with these tables, where its texts end at these places.
+    pub(crate) fn from_parts(
+        texts: List<(Value, u32)>,
+        ends: Vec<u32>,
+        attrs: List<AttrTables>,
+        structs: List<List<SegStruct>>,
+    ) -> Self
+        requires tables { AreTables (record { texts = texts; attrs = attrs; structs = structs }) }
+        requires ends { AreEndsOf texts ends.items }
+        ensures { result ≡ record { texts = texts; attrs = attrs; structs = structs } }
+    {
+        Segment {
+            texts,
+            ends,
+            attrs,
+            structs,
+        }
+    }
+
     /// How many texts there are.
     pub fn texts(&self) -> u32
         ensures count { result ≡ length self.now.texts }
