@@ -7,8 +7,10 @@
 mod building;
 mod columns;
 mod inverting;
+mod joining;
 mod mapped;
 mod numbering;
+mod queue;
 mod segment;
 mod structs;
 mod table;

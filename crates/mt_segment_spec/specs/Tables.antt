@@ -1,6 +1,6 @@
 -- What a segment holds of some texts: for each attribute its values and where they stand, and the instances of structures.
 -- The place of a token in a segment is the number of tokens before it, those of the earlier texts and those of its own.
-use Rattle.std.specs.Prelude.{ℕ, ◌≡◌, ◌+◌, ◌<◌, ◌==◌, Bool, List, [], ◌∷◌, ◌++◌, length, map, take, sum, filter, slice_get, slice_index, slice_index_or, Option, None, Some}
+use Rattle.std.specs.Prelude.{ℕ, ◌≡◌, ◌+◌, ◌<◌, ◌==◌, Bool, List, [], ◌∷◌, ◌++◌, length, map, take, sum, filter, slice_get, slice_index, slice_index_or, is_none, is_some, Option, None, Some}
 use Rattle.std.specs.List.{All, Contains}
 use Rattle.std.specs.List.Sorted.{IsStrictlyIncreasing}
 use Rattle.mt_text_spec.specs.Registries.{Registry, Attr, ValidRegistry, base_attr, column_of}
@@ -118,6 +118,17 @@ pub record AreTablesUnder (registry : Registry) (tables : Tables) : Type 0 where
 pub record AreTables (tables : Tables) : Type 0 where
   pub registry : Registry
   pub under : AreTablesUnder registry tables
+
+-- ## Tables in parts
+
+-- Tables as lists: lexicons and posting lists of all attributes, the columns of the base attributes and the tables of the mapped ones, all in order of declaration.
+pub record HaveParts (tables : Tables) (texts : List (List ℕ × ℕ)) (lexicons : List (List (List ℕ))) (columns mapped : List (List ℕ)) (postings : List (List (List ℕ))) (structs : List (List Instance)) : Type 0 where
+  pub texts_are : texts ≡ tables.texts
+  pub lexicons_are : lexicons ≡ map (λ attr. attr.lexicon) tables.attrs
+  pub columns_are : columns ≡ map (λ attr. attr.numbers) (filter (λ attr. is_none attr.base) tables.attrs)
+  pub mapped_are : mapped ≡ map (λ attr. attr.numbers) (filter (λ attr. is_some attr.base) tables.attrs)
+  pub postings_are : postings ≡ map (λ attr. attr.postings) tables.attrs
+  pub structs_are : structs ≡ tables.structs
 
 -- ## What tables tell
 
