@@ -1,23 +1,20 @@
 -- The tables of all attributes together, and what is beside them.
 use Rattle.std.proofs.Common.{◌≡◌, ℕ, suc, ◌+◌, ◌<◌, ◌≤◌, Bool, true, false, List, [], ◌∷◌, ◌++◌, length, length-append, map, take, get_or, set, sum, Option, None, Some, refl, sym, ◌∙◌, ap, ap₂, subst, arith, ◌⊎◌, inl, inr}
-use Rattle.std.specs.List.{All, Contains, sum_by}
-use Rattle.std.proofs.lemmas.Bool.{cases_lt, cases_eq}
-use Rattle.std.proofs.lemmas.List.{length-map, length-set, map_more, get_or-map, get_or-set_same, get_or-set_other, get_or_append_left, get_or_push, get_or_default, take_all}
-use Rattle.std.proofs.lemmas.List.Elements.{All-from_get_or}
+use Rattle.std.specs.List.{All}
+use Rattle.std.proofs.lemmas.Bool.{cases_lt}
+use Rattle.std.proofs.lemmas.List.{length-set, get_or-set_same, get_or-set_other, get_or_append_left, get_or_push, get_or_default}
 use Rattle.std.proofs.lemmas.List.Sums.{sum-map, sum_by_more, sum_by_more_le, count_by_more_yes, count_by_more_no}
 use Rattle.std.proofs.lemmas.Option.{slice_get_within, get_or_from_slice_get}
-use Rattle.std.proofs.lemmas.Simd.{map-map}
 use mir.Val.{bool_byte}
 use Rattle.mt_text_spec.specs.Registries.{Registry, Attr, ValidRegistry, ValidAttr, IsBaseAt, base_attr, column_of, is_base}
-use Rattle.mt_text_spec.specs.Texts.{Text, Token, total_tokens, tokens_limit}
-use Rattle.mt_store_spec.specs.Lexicons.{Renumbers}
+use Rattle.mt_text_spec.specs.Texts.{Text, total_tokens, tokens_limit}
 use Rattle.mt_lexicon.proofs.Renumbered.{numbers_within}
 use Rattle.mt_mapper.specs.Calls.{counted}
-use Rattle.mt_mapper.proofs.Counts.{counted_none, counted_more}
-use Rattle.mt_segment_spec.specs.Tables.{Tables, AttrTables, Instance, AreAttrTables, AreTablesOf, attr_at, attr_values, base_values, column_values, heads_of, instances_from, made_of, tables_at}
+use Rattle.mt_mapper.proofs.Counts.{counted_more}
+use Rattle.mt_segment_spec.specs.Tables.{AttrTables, Instance, AreAttrTables, AreTablesOf, attr_at, attr_values, base_values, column_values, heads_of, made_of, tables_at}
 use Rattle.mt_segment.specs.Building.{AreAllMapped, AreBaseTables, AreInstances, AreUsable, HasBase, IsMappedAt, attr_of}
 use Rattle.mt_segment.specs.Ends.{AreFirstEnds}
-use Rattle.mt_segment.specs.Mappers.{AreCounted, AreMapped, calls_due, calls_of, image_by, named}
+use Rattle.mt_segment.specs.Mappers.{AreCounted, AreMapped, calls_due, calls_of}
 use Rattle.mt_segment.proofs.Mappings.{mapped_made}
 use Rattle.mt_segment.proofs.Valued.{length-column_values}
 
@@ -60,6 +57,7 @@ column_next attrs i column attr base l is e test = by base test
   where
     here : is_base (get_or attrs i attr) ≡ is_base attr
     here = ap is_base (sym is)
+
     by : (b : Bool) → b ≡ is_base attr → column + bool_byte b ≡ column_of attrs (i + 1)
     by true t = omega (arith, e, count_by_more_yes is_base attrs i attr l (here ∙ sym t))
     by false t = omega (arith, e, count_by_more_no is_base attrs i attr l (here ∙ sym t))
@@ -73,6 +71,7 @@ base_more attrs corpus tables i column attr made h l is e its = record {
   where
     Right : ℕ → AttrTables → Type 0
     Right k t = AreAttrTables None (column_values (column_of attrs k) corpus) (column_values (column_of attrs k) corpus) t
+
     by : (k : ℕ) → (k < i) ⊎ (i ≤ k) → k < i + 1 → (attr_of attrs k).base ≡ None →
         AreAttrTables None (column_values (column_of attrs k) corpus) (column_values (column_of attrs k) corpus) (tables_at (tables ++ made ∷ []) k)
     by k (inl low) m base = rw (get_or_append_left tables (made ∷ []) (tables_at [] 0) k (omega (arith, h.count))) (h.at k low base)
@@ -114,10 +113,12 @@ module _ (images : List ℕ → List ℕ → List ℕ) (attrs : List Attr) (old 
     where
       its : (attr_of attrs number).base ≡ Some base
       its = ap (λ (a : Attr). a.base) its_base ∙ some
+
       differs : (k : ℕ) → (attr_of attrs k).base ≡ None → k ≡ number → ⊥
       differs k none same =
           let at : (attr_of attrs k).base ≡ Some base = ap (λ (n : ℕ). (attr_of attrs n).base) same ∙ its in
           cc
+
       by : (k under : ℕ) → (k < number) ⊎ (number ≤ k) → k < number + 1 → (attr_of attrs k).base ≡ Some under → AreMapped under (images (attr_of attrs k).mapper) (tables_at old under) (tables_at (set now number made) k)
       by k under (inl low) m it =
           let d : (k ≡ number → ⊥) = λ same. omega arith in
@@ -181,6 +182,7 @@ have_bases registry corpus tables valid few h = λ k d l.
   where
     within : (base : ℕ) → IsBaseAt registry.attrs base → base < length registry.attrs
     within base is = slice_get_within registry.attrs base is.attr is.there
+
     none : (base : ℕ) → IsBaseAt registry.attrs base → (attr_of registry.attrs base).base ≡ None
     none base is = ap (λ (a : Attr). a.base) (get_or_from_slice_get registry.attrs base is.attr (base_attr []) is.there) ∙ is.base
 
@@ -197,6 +199,7 @@ module _ (images : List ℕ → List ℕ → List ℕ) (registry : Registry) (co
     where
       image : List ℕ → List ℕ
       image = images (attr_at registry number).mapper
+
       by : (base : Option ℕ) → (attr_at registry number).base ≡ base →
           AreAttrTables base (made_of (images (attr_at registry number).mapper) (base_values registry corpus number) (base_values registry corpus) base)
           (made_of (images (attr_at registry number).mapper) (made_of (images (attr_at registry number).mapper) (base_values registry corpus number) (base_values registry corpus) base) (λ b. (tables_at tables b).lexicon) base)
@@ -226,6 +229,7 @@ module _ (images : List ℕ → List ℕ → List ℕ) (registry : Registry) (co
       one : (attr : Attr) → HasBase registry.attrs first attr → (base : Option ℕ) → attr.base ≡ base → calls_of names tables mapper attr.mapper base ≡ calls_of names first mapper attr.mapper base
       one attr has None e = refl
       one attr has (Some base) e = rw (mapped.kept base (has.is_base base e)) refl
+
       each : (attrs : List Attr) → All (HasBase registry.attrs first) attrs → map (λ attr. calls_of names tables mapper attr.mapper attr.base) attrs ≡ map (λ attr. calls_of names first mapper attr.mapper attr.base) attrs
       each [] all = refl
       each (attr ∷ attrs) all = ap₂ (λ (n : ℕ) (ns : List ℕ). n ∷ ns) (one attr (all 0 attr (omega arith)) attr.base refl) (each attrs (λ k d l. all (suc k) d (omega arith)))

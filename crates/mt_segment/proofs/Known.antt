@@ -1,16 +1,15 @@
 -- What is known of the tables of valid texts.
-use Rattle.std.proofs.Common.{◌≡◌, ℕ, ◌+◌, ◌<◌, ◌≤◌, List, [], ◌∷◌, length, map, sum, get_or, slice_get, Option, None, Some, refl, sym, ◌∙◌, ap, subst, arith}
-use Rattle.std.specs.List.{All, Contains, sum_by, flat_map}
+use Rattle.std.proofs.Common.{◌≡◌, ℕ, ◌<◌, List, [], length, map, sum, get_or, Option, None, Some, sym, ◌∙◌, ap, subst, arith}
 use Rattle.std.proofs.lemmas.List.{length-map, get_or_default}
 use Rattle.std.proofs.lemmas.List.Concat.{length-flat_map}
 use Rattle.std.proofs.lemmas.List.Sums.{sum-map}
 use Rattle.std.proofs.lemmas.Simd.{map-map}
-use Rattle.std.proofs.lemmas.Option.{slice_get-get_or, slice_get_within, get_or_from_slice_get}
-use Rattle.mt_text_spec.specs.Registries.{Registry, Attr, ValidRegistry, ValidAttr, IsBaseAt, base_attr, column_of}
-use Rattle.mt_text_spec.specs.Texts.{Text, Token, value_of, tokens_of}
+use Rattle.std.proofs.lemmas.Option.{slice_get_within, get_or_from_slice_get}
+use Rattle.mt_text_spec.specs.Registries.{Registry, Attr, ValidAttr, IsBaseAt, base_attr, column_of}
+use Rattle.mt_text_spec.specs.Texts.{Text, value_of, tokens_of}
 use Rattle.mt_store_spec.specs.Lexicons.{Renumbers}
 use Rattle.mt_lexicon.proofs.Renumbered.{numbers_within}
-use Rattle.mt_segment_spec.specs.Tables.{Tables, AttrTables, AreTables, AreTablesOf, AreAttrTables, attr_at, attr_values, base_values, made_of, heads_of, tables_at, token_count}
+use Rattle.mt_segment_spec.specs.Tables.{Tables, AttrTables, AreTables, AreTablesOf, attr_at, attr_values, base_values, made_of, heads_of, tables_at, token_count}
 
 -- there is a value for each token
 tokens_are : (corpus : List Text) → length (tokens_of corpus) ≡ sum (map (λ head. head.1) (heads_of corpus))

@@ -1,6 +1,6 @@
 -- Mappers by name, and tables that come of images.
-use Rattle.std.proofs.Common.{◌≡◌, ℕ, zero, suc, ◌+◌, ◌<◌, ◌≤◌, ◌==◌, Bool, true, false, not, cond, List, [], ◌∷◌, ◌++◌, length, map, take, get_or, set, slice_get, Option, None, Some, refl, sym, ◌∙◌, ap, ap₂, subst, arith, ◌⊎◌, inl, inr, if◌then◌else◌, true≢false}
-use Rattle.std.specs.List.{All, Contains, position_or_len}
+use Rattle.std.proofs.Common.{◌≡◌, ℕ, suc, ◌+◌, ◌<◌, ◌≤◌, ◌==◌, Bool, true, false, not, cond, List, [], ◌∷◌, ◌++◌, length, map, take, get_or, set, slice_get, None, Some, refl, sym, ◌∙◌, ap, ap₂, subst, arith, ◌⊎◌, inl, inr, if◌then◌else◌, true≢false}
+use Rattle.std.specs.List.{All, Contains}
 use Rattle.std.specs.Option.{option_map}
 use Rattle.std.specs.Str.{bytes_eq}
 use Rattle.std.specs.Cmp.Lexicographic.{bytes_decides}
@@ -11,15 +11,14 @@ use Rattle.std.proofs.lemmas.Simd.{map-map}
 use Rattle.std.proofs.Math.Seq.{map-set_same}
 use Rattle.std.proofs.lemmas.List.Elements.{All-from_get_or}
 use Rattle.std.proofs.lemmas.List.Sums.{position_or_len_is}
-use Rattle.std.proofs.lemmas.Option.{slice_get-get_or, slice_get_within, slice_get-map, get_or_from_slice_get}
+use Rattle.std.proofs.lemmas.Option.{slice_get_within, slice_get-map, get_or_from_slice_get}
 use Rattle.mt_store_spec.specs.Lexicons.{IsLexiconOf, Renumbers}
 use Rattle.mt_lexicon.specs.Joins.{renumbered}
 use Rattle.mt_lexicon.proofs.Renumbered.{numbers_within, renumbers_then}
 use Rattle.mt_mapper.specs.Calls.{counted, CountedAtMost}
 use Rattle.mt_mapper.proofs.Counts.{counted_none}
-use Rattle.mt_segment_spec.specs.Tables.{AttrTables, ArePlacesOf, ArePostingsOf, AreAttrTables}
-use Rattle.mt_segment.specs.Parts.{AreInverted}
-use Rattle.mt_segment.specs.Mappers.{AreMade, AreMapped, AreCounted, AreCountedAtMost, named, image_by, number_of}
+use Rattle.mt_segment_spec.specs.Tables.{AttrTables, AreAttrTables}
+use Rattle.mt_segment.specs.Mappers.{AreMapped, AreCounted, AreCountedAtMost, named, image_by, number_of}
 use Rattle.mt_segment.proofs.Valued.{postings_are}
 
 -- ---- the mapper of a name
@@ -147,9 +146,9 @@ pub through_low : (table column read : List ℕ) (images lexicon : List (List �
     All (λ n. n < count) read
 through_low table column read images lexicon count h all e few =
     subst (λ (ns : List ℕ). All (λ n. n < count) ns) (sym e) (All-from_get_or (λ n. n < count) (renumbered table column) 0 (λ k l.
-        let within : k < length column = omega (arith, length-map column (λ (n : ℕ). get_or table n 0)) in
-        let low : get_or column k 0 < length table = omega (arith, all k 0 within, h.count) in
-        rw (get_or-map (λ (n : ℕ). get_or table n 0) column k 0 0 within, few) (numbers_within table images lexicon h (get_or column k 0) 0 low)))
+    let within : k < length column = omega (arith, length-map column (λ (n : ℕ). get_or table n 0)) in
+    let low : get_or column k 0 < length table = omega (arith, all k 0 within, h.count) in
+    rw (get_or-map (λ (n : ℕ). get_or table n 0) column k 0 0 within, few) (numbers_within table images lexicon h (get_or column k 0) 0 low)))
 
 renumbers_map : (f : List ℕ → List ℕ) (numbers : List ℕ) (old new : List (List ℕ)) → Renumbers numbers old new → Renumbers numbers (map f old) (map f new)
 renumbers_map f numbers old new h = record {

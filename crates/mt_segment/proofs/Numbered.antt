@@ -1,5 +1,5 @@
 -- Numbers by first sight, and the numbers of a lexicon that take their place.
-use Rattle.std.proofs.Common.{◌≡◌, ℕ, ◌+◌, ◌<◌, ◌≤◌, Bool, true, false, List, [], ◌∷◌, ◌++◌, length, length-append, map, get_or, slice_get, Some, refl, sym, ◌∙◌, ap, ap₂, subst, arith, if◌then◌else◌, zero, suc, ◌⊎◌, inl, inr}
+use Rattle.std.proofs.Common.{◌≡◌, ℕ, ◌+◌, ◌<◌, ◌≤◌, Bool, true, false, List, [], ◌∷◌, ◌++◌, length, length-append, get_or, slice_get, Some, refl, sym, ◌∙◌, ap, ap₂, subst, arith, if◌then◌else◌, suc, ◌⊎◌, inl, inr}
 use Rattle.std.specs.List.{All, Contains, list_any}
 use Rattle.std.specs.Option.{option_map}
 use Rattle.std.specs.Str.{bytes_eq}
@@ -56,9 +56,11 @@ numbered_more seen more numbers value n h e at = record {
   where
     g : Grows seen more value
     g = grows seen more value e
+
     inside : (k : ℕ) → k < length (numbers ++ n ∷ []) → (k < length numbers) ⊎ (length numbers ≤ k) → get_or (numbers ++ n ∷ []) k 0 < length more
     inside k l (inl m) = rw (get_or_append_left numbers (n ∷ []) 0 k m) ((g.keeps (get_or numbers k 0) (h.within k 0 m)).0)
     inside k l (inr m) = rw (get_or_push numbers n 0 k (omega (arith, length-append numbers (n ∷ [])))) (slice_get_within more n value at)
+
     there : (k : ℕ) → (k < length seen) ⊎ (get_or more k [] ≡ value) → Contains (stands_for seen numbers ++ value ∷ []) (get_or more k [])
     there k (inl m) = rw ((g.keeps k m).1) (Contains-append_left (stands_for seen numbers) (value ∷ []) (get_or seen k []) (h.only k [] m))
     there k (inr same) = rw same (Contains-append_right (stands_for seen numbers) (value ∷ []) value (0, omega arith, refl))

@@ -1,7 +1,7 @@
 -- Tables put together one after the other.
-use Rattle.std.proofs.Common.{◌≡◌, ℕ, suc, ◌+◌, ◌<◌, ◌≤◌, Bool, true, false, cond, List, [], ◌∷◌, ◌++◌, length, map, take, drop, get_or, sum, Option, None, Some, refl, sym, ◌∙◌, ap, ap₂, subst, arith}
+use Rattle.std.proofs.Common.{◌≡◌, ℕ, ◌+◌, ◌<◌, ◌≤◌, cond, List, [], ◌∷◌, ◌++◌, length, map, take, drop, get_or, sum, Option, None, Some, refl, sym, ◌∙◌, ap, ap₂, arith}
 use Rattle.std.specs.Prelude.{filter, is_none, is_some}
-use Rattle.std.proofs.lemmas.List.{length-map, length-drop, get_or-map, same_lists, drop-map, drop_more, take_more, take_all, drop_all}
+use Rattle.std.proofs.lemmas.List.{length-map, length-drop, get_or-map, same_lists, drop_more, take_more, take_all}
 use Rattle.std.proofs.lemmas.Simd.{map-map}
 use Rattle.mt_text_spec.specs.Registries.{Registry, Attr, base_attr}
 use Rattle.mt_text_spec.specs.Texts.{Text, total_tokens, tokens_limit}
@@ -91,12 +91,16 @@ module _ (attrs : List Attr) (t : List AttrTables) (i : ℕ) (all : List AttrTab
     where
       lexicon_both : lexicon ∷ lexicons_left ≡ next.first.lexicon ∷ map (λ attr. attr.lexicon) next.rest
       lexicon_both = sym e ∙ h.left.lexicons_are ∙ ap (map (λ attr. attr.lexicon)) next.is
+
       postings_both : its_postings ∷ postings_left ≡ next.first.postings ∷ map (λ attr. attr.postings) next.rest
       postings_both = sym p ∙ h.left.postings_are ∙ ap (map (λ attr. attr.postings)) next.is
+
       columns_now : columns ≡ numbers_of (cond (is_none next.first.base) (next.first ∷ columns_in next.rest) (columns_in next.rest))
       columns_now = h.left.columns_are ∙ ap (λ (ts : List AttrTables). numbers_of (columns_in ts)) next.is
+
       mapped_now : mapped ≡ numbers_of (cond (is_some next.first.base) (next.first ∷ mapped_in next.rest) (mapped_in next.rest))
       mapped_now = h.left.mapped_are ∙ ap (λ (ts : List AttrTables). numbers_of (mapped_in ts)) next.is
+
       numbers_left : (numbers ≡ next.first.numbers) × (columns_left ≡ numbers_of (columns_in next.rest)) × (mapped_left ≡ numbers_of (mapped_in next.rest))
       numbers_left = by attr.base refl n
         where
@@ -112,6 +116,7 @@ module _ (attrs : List Attr) (t : List AttrTables) (i : ℕ) (all : List AttrTab
               let both : numbers ∷ mapped_left ≡ next.first.numbers ∷ numbers_of (mapped_in next.rest) =
               sym m ∙ mapped_now ∙ ap (λ (o : Option ℕ). numbers_of (cond (is_some o) (next.first ∷ mapped_in next.rest) (mapped_in next.rest))) some in
               (head_is both, sym c ∙ columns_now ∙ ap (λ (o : Option ℕ). numbers_of (cond (is_none o) (next.first ∷ columns_in next.rest) (columns_in next.rest))) some, second both)
+
       made : record { base = attr.base; lexicon = lexicon; numbers = numbers; postings = its_postings } ≡ next.first
       made =
           let f : Option ℕ → List (List ℕ) → List ℕ → List (List ℕ) → AttrTables = λ b x ns ps. record { base = b; lexicon = x; numbers = ns; postings = ps } in
@@ -119,6 +124,7 @@ module _ (attrs : List Attr) (t : List AttrTables) (i : ℕ) (all : List AttrTab
           ∙ ap (λ (x : List (List ℕ)). f next.first.base x numbers its_postings) (head_is lexicon_both)
           ∙ ap (λ (ns : List ℕ). f next.first.base next.first.lexicon ns its_postings) numbers_left.0
           ∙ ap (λ (ps : List (List ℕ)). f next.first.base next.first.lexicon next.first.numbers ps) (head_is postings_both)
+
       sixth : map (λ attr. attr.base) (drop (i + 1) t) ≡ map (λ attr. attr.base) (drop (i + 1) attrs)
       sixth =
           let both : next.first.base ∷ map (λ attr. attr.base) next.rest ≡ attr.base ∷ map (λ attr. attr.base) (drop (i + 1) attrs) = sym (ap (map (λ attr. attr.base)) next.is) ∙ next_bases in

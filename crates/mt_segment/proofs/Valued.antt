@@ -1,17 +1,16 @@
 -- Columns of values, their numbers and their places.
-use Rattle.std.proofs.Common.{◌≡◌, ℕ, ◌+◌, ◌<◌, ◌≤◌, List, [], ◌∷◌, ◌++◌, length, length-append, map, take, get_or, sum, slice_get, Option, None, Some, refl, sym, ◌∙◌, ap, ap₂, subst, arith, ◌⊎◌, inl, inr}
-use Rattle.std.specs.List.{All, Contains, flat_map}
+use Rattle.std.proofs.Common.{◌≡◌, ℕ, ◌+◌, ◌<◌, ◌≤◌, List, [], ◌∷◌, ◌++◌, length, map, take, get_or, slice_get, None, Some, sym, ◌∙◌, ap, subst, arith, ◌⊎◌, inl, inr}
+use Rattle.std.specs.List.{All}
 use Rattle.std.specs.Ordering.{nat_cmp}
 use Rattle.std.specs.Cmp.Lexicographic.{slice_cmp, nat_list_cmp_total}
-use Rattle.std.specs.declared.cmp.Ordering.TheVariants.{Less, Equal}
+use Rattle.std.specs.declared.cmp.Ordering.TheVariants.{Equal}
 use Rattle.std.proofs.lemmas.Bool.{cases_lt}
 use Rattle.std.proofs.lemmas.Cmp.{tied_itself}
-use Rattle.std.proofs.lemmas.List.{length-map, map-append, map_push, get_or-map, take_more, take_all, flat_map_more, get_or_default}
+use Rattle.std.proofs.lemmas.List.{length-map, map-append, take_more, take_all, flat_map_more}
 use Rattle.std.proofs.lemmas.List.Concat.{length-flat_map}
-use Rattle.std.proofs.lemmas.List.Elements.{All-from_get_or}
 use Rattle.std.proofs.lemmas.List.Sums.{sum-map, sum_by_more_le}
 use Rattle.std.proofs.lemmas.Option.{slice_get-get_or, slice_get_within, get_or_from_slice_get}
-use Rattle.mt_text_spec.specs.Texts.{Text, Token, value_of, tokens_of, total_tokens}
+use Rattle.mt_text_spec.specs.Texts.{Text, value_of, tokens_of, total_tokens}
 use Rattle.mt_store_spec.specs.Lexicons.{IsBelow, IsAscending, IsLexiconOf, Renumbers}
 use Rattle.mt_lexicon.proofs.Renumbered.{numbers_within}
 use Rattle.mt_segment_spec.specs.Tables.{AttrTables, ArePlacesOf, ArePostingsOf, AreAttrTables, column_values}
@@ -36,8 +35,14 @@ column_more column corpus i text l e =
 pub column_fits : (column : ℕ) (corpus : List Text) (i : ℕ) (text : Text) → i < length corpus → text ≡ get_or corpus i text →
     length (column_values column (take i corpus)) + length text.tokens ≤ total_tokens corpus
 column_fits column corpus i text l e =
-    omega (arith, length-column_values column (take i corpus), sum-map (λ (t : Text). length t.tokens) (take i corpus), sum-map (λ (t : Text). length t.tokens) corpus,
-    sum_by_more_le (λ (t : Text). length t.tokens) corpus i text l, ap (λ (t : Text). length t.tokens) e)
+    omega (
+      arith,
+      length-column_values column (take i corpus),
+      sum-map (λ (t : Text). length t.tokens) (take i corpus),
+      sum-map (λ (t : Text). length t.tokens) corpus,
+      sum_by_more_le (λ (t : Text). length t.tokens) corpus i text l,
+      ap (λ (t : Text). length t.tokens) e,
+    )
 
 -- all texts
 pub column_all : (column : ℕ) (corpus : List Text) (i : ℕ) (values : List (List ℕ)) → values ≡ column_values column (take i corpus) → length corpus ≤ i → values ≡ column_values column corpus
@@ -63,10 +68,12 @@ one_number lexicon i j value up at_i at_j = by (cases_lt i j) (cases_lt j i)
   where
     is : (k : ℕ) → slice_get lexicon k ≡ Some value → get_or lexicon k [] ≡ value
     is k e = get_or_from_slice_get lexicon k value [] e
+
     never : (k m : ℕ) → k < m → slice_get lexicon k ≡ Some value → slice_get lexicon m ≡ Some value → ⊥
     never k m l at_k at_m =
         let low : IsBelow (get_or lexicon k []) (get_or lexicon m []) = up k m [] l (slice_get_within lexicon m value at_m) in
         not_below_itself value (subst (λ (v : List ℕ). IsBelow v value) (is k at_k) (subst (IsBelow (get_or lexicon k [])) (is m at_m) low))
+
     by : (i < j) ⊎ (j ≤ i) → (j < i) ⊎ (i ≤ j) → i ≡ j
     by (inl l) other = absurd (never i j l at_i at_j)
     by (inr l) (inl m) = absurd (never j i m at_j at_i)

@@ -1,5 +1,5 @@
 -- The tables of all attributes: first those of the base attributes, then, in their places, those of the mapped ones.
-use Rattle.std.specs.Prelude.{ℕ, ◌≡◌, ◌<◌, List, [], length, map, sum, slice_index_or, slice_set, Option, None, Some}
+use Rattle.std.specs.Prelude.{ℕ, ◌≡◌, ◌<◌, List, [], length, slice_index_or, slice_set, Option, None, Some}
 use Rattle.std.specs.List.{All}
 use Rattle.mt_text_spec.specs.Registries.{Attr, base_attr, column_of}
 use Rattle.mt_text_spec.specs.Texts.{Text}

@@ -42,12 +42,7 @@ impl Segment {
         let mut tables = all_base_tables(alloc, texts, attrs, ends[ends.len() - 1] as usize)?;
         map_all(alloc, attrs, tables.as_mut_slice(), mappers)?;
         let structs = all_instances(alloc, texts, registry.kinds().len() as u16)?;
-        Ok(Segment::from_parts(
-            heads,
-            ends,
-            List::from_vec(tables),
-            structs,
-        ))
+        Ok(Segment::from_parts(heads, ends, List::from_vec(tables), structs))
     }
 }
 

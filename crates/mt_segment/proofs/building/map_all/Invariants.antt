@@ -1,5 +1,5 @@
 -- The mapped attributes so far have their tables, and their mappers were called for them.
-use Rattle.std.proofs.Common.{◌≡◌, length, map, take}
+use Rattle.std.proofs.Common.{◌≡◌, map, take}
 use Rattle.mt_segment.specs.Building.{AreAllMapped}
 use Rattle.mt_segment.specs.Mappers.{AreCounted, calls_due, image_by, named}
 use Rattle.mt_segment.proofs.building.map_all.Given as goal

@@ -1,6 +1,6 @@
-use Rattle.std.proofs.Common.{◌≡◌, ◌∙◌, ℕ, List, None, length, take, refl, ap, sym, subst, arith}
+use Rattle.std.proofs.Common.{◌≡◌, ℕ, List, None, length, take, refl, ap, subst, arith}
 use Rattle.mt_store_spec.specs.Lexicons.{IsLexiconOf, Renumbers}
-use Rattle.mt_segment_spec.specs.Tables.{AreAttrTables, column_values}
+use Rattle.mt_segment_spec.specs.Tables.{column_values}
 use Rattle.mt_segment.specs.Parts.{AreInverted}
 use Rattle.mt_segment.proofs.Valued.{column_fits, column_all, numbers_few, numbers_low, base_made}
 use Rattle.mt_segment.proofs.columns.base_tables.Goals as goal

@@ -1,4 +1,4 @@
-use Rattle.std.proofs.Common.{ℕ, Option, List, subst}
+use Rattle.std.proofs.Common.{ℕ, Option, subst}
 use Rattle.mt_segment.specs.Joined.{TakesNumbers}
 use Rattle.mt_segment.proofs.Parted.{has_numbers, parted_more, parted_all}
 use Rattle.mt_segment.proofs.joining.join.Goals as goal

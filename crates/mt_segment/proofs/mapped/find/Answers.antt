@@ -1,4 +1,4 @@
-use Rattle.std.proofs.Common.{sym, ◌∙◌}
+use Rattle.std.proofs.Common.{sym}
 use Rattle.mt_segment.proofs.Mappings.{number_is, one_less, none_there}
 use Rattle.mt_segment.proofs.mapped.find.Goals as goal
 

@@ -1,7 +1,6 @@
-use Rattle.std.proofs.Common.{◌≡◌, ◌∙◌, List, ℕ, length, ap, slice_index}
+use Rattle.std.proofs.Common.{◌≡◌, ◌∙◌, length, ap, slice_index}
 use Rattle.std.proofs.lemmas.List.{with_items_is, length-map}
 use Rattle.mt_lexicon.specs.Joins.{renumbered}
-use Rattle.mt_store_spec.specs.Lexicons.{Renumbers}
 use Rattle.mt_segment.proofs.Numbered.{finished_lexicon, finished_numbers}
 use Rattle.mt_segment.proofs.numbering.Numbering.finish.Goals as goal
 

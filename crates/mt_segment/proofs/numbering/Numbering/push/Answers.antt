@@ -1,4 +1,3 @@
-use Rattle.std.proofs.Common.{sym, ◌∙◌, ap}
 use Rattle.mt_segment.proofs.Numbered.{values_more, numbered_more}
 use Rattle.mt_segment.proofs.numbering.Numbering.push.Goals as goal
 

@@ -1,7 +1,7 @@
-use Rattle.std.proofs.Common.{◌≡◌, ℕ, List, map, length, sym, ◌∙◌, ap, subst}
+use Rattle.std.proofs.Common.{◌≡◌, List, map, length, sym, ◌∙◌, ap, subst}
 use Rattle.std.specs.List.{All}
 use Rattle.std.proofs.lemmas.List.{with_items_is}
-use Rattle.mt_text_spec.specs.Registries.{Attr, Kind}
+use Rattle.mt_text_spec.specs.Registries.{Attr}
 use Rattle.mt_segment_spec.specs.Tables.{AreTablesOf, AttrTables, Tables}
 use Rattle.mt_segment.specs.Building.{AreAllMapped, AreBaseTables, AreInstances, HasBase}
 use Rattle.mt_segment.specs.Mappers.{AreCounted, AreThere, calls_due, image_by, named}

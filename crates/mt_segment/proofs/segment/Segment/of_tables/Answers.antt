@@ -1,6 +1,5 @@
-use Rattle.std.proofs.Common.{◌≡◌, ℕ, List, map, sum, sym, ◌∙◌, ap, subst, arith}
-use Rattle.mt_segment_spec.specs.Tables.{AreTables, Tables}
-use Rattle.mt_segment.specs.Joined.{AreJoined}
+use Rattle.std.proofs.Common.{◌≡◌, sym, ◌∙◌, subst, arith}
+use Rattle.mt_segment_spec.specs.Tables.{AreTables}
 use Rattle.mt_segment.proofs.Parted.{joined_from, joined_at, tokens_fit, put_together}
 use Rattle.mt_segment.proofs.segment.Segment.of_tables.Goals as goal
 
@@ -11,10 +10,11 @@ ends-requires c =
 
 pub join-requires : goal.join-requires
 join-requires c =
-    let (t, under, parts) = c.requires in
-    (t.attrs,
-    joined_at c.args.registry.now.attrs c.as_slice-2.result.now t.attrs c.args.lexicons c.new.result c.args.columns c.new-2.result c.args.tables c.new-3.result c.args.postings c.new-4.result
-    (joined_from c.args.registry.now t c.args.texts c.args.lexicons c.args.columns c.args.tables c.args.postings c.args.structs under parts) (c.as_slice-2.ensures ∙ c.attrs.ensures) (c.new.ensures ∙ c.into_vec.ensures) (c.new-2.ensures ∙ c.into_vec-2.ensures) (c.new-3.ensures ∙ c.into_vec-3.ensures) (c.new-4.ensures ∙ c.into_vec-4.ensures))
+    let (t, under, parts) = c.requires in (
+      t.attrs,
+      joined_at c.args.registry.now.attrs c.as_slice-2.result.now t.attrs c.args.lexicons c.new.result c.args.columns c.new-2.result c.args.tables c.new-3.result c.args.postings c.new-4.result
+          (joined_from c.args.registry.now t c.args.texts c.args.lexicons c.args.columns c.args.tables c.args.postings c.args.structs under parts) (c.as_slice-2.ensures ∙ c.attrs.ensures) (c.new.ensures ∙ c.into_vec.ensures) (c.new-2.ensures ∙ c.into_vec-2.ensures) (c.new-3.ensures ∙ c.into_vec-3.ensures) (c.new-4.ensures ∙ c.into_vec-4.ensures),
+    )
 
 pub from_parts-requires-clause-tables : goal.from_parts-requires-clause-tables
 from_parts-requires-clause-tables c =

@@ -1,4 +1,4 @@
-use Rattle.std.proofs.Common.{ℕ, length, ap, arith}
+use Rattle.std.proofs.Common.{length, ap, arith}
 use Rattle.mt_segment_spec.specs.Tables.{Tables, AttrTables}
 use Rattle.mt_segment.proofs.Known.{in_column, its_base, in_base_column, in_table}
 use Rattle.mt_segment.proofs.segment.Segment.value_id.Goals as goal
