@@ -1,0 +1,238 @@
+-- The tables of all attributes together, and what is beside them.
+use Rattle.std.proofs.Common.{◌≡◌, ℕ, suc, ◌+◌, ◌<◌, ◌≤◌, Bool, true, false, List, [], ◌∷◌, ◌++◌, length, length-append, map, take, get_or, set, sum, Option, None, Some, refl, sym, ◌∙◌, ap, ap₂, subst, arith, ◌⊎◌, inl, inr}
+use Rattle.std.specs.List.{All}
+use Rattle.std.proofs.lemmas.Bool.{cases_lt}
+use Rattle.std.proofs.lemmas.List.{length-set, get_or-set_same, get_or-set_other, get_or_append_left, get_or_push, get_or_default}
+use Rattle.std.proofs.lemmas.List.Sums.{sum-map, sum_by_more, sum_by_more_le, count_by_more_yes, count_by_more_no}
+use Rattle.std.proofs.lemmas.Option.{slice_get_within, get_or_from_slice_get}
+use mir.Val.{bool_byte}
+use Rattle.mt_text_spec.specs.Registries.{Registry, Attr, ValidRegistry, ValidAttr, IsBaseAt, base_attr, column_of, is_base}
+use Rattle.mt_text_spec.specs.Texts.{Text, total_tokens, tokens_limit}
+use Rattle.mt_lexicon.proofs.Renumbered.{numbers_within}
+use Rattle.mt_mapper.specs.Calls.{counted}
+use Rattle.mt_mapper.proofs.Counts.{counted_more}
+use Rattle.mt_segment_spec.specs.Tables.{AttrTables, Instance, AreAttrTables, AreTablesOf, attr_at, attr_values, base_values, column_values, heads_of, made_of, tables_at}
+use Rattle.mt_segment.specs.Building.{AreAllMapped, AreBaseTables, AreInstances, AreUsable, HasBase, IsMappedAt, attr_of}
+use Rattle.mt_segment.specs.Ends.{AreFirstEnds}
+use Rattle.mt_segment.specs.Mappers.{AreCounted, AreMapped, calls_due, calls_of}
+use Rattle.mt_segment.proofs.Mappings.{mapped_made}
+use Rattle.mt_segment.proofs.Valued.{length-column_values}
+
+-- ---- where texts end
+
+abbrev tokens_in : List ℕ × ℕ → ℕ
+tokens_in head = head.1
+
+pub end_more : (texts : List (List ℕ × ℕ)) (i end : ℕ) (text : List ℕ × ℕ) → end ≡ sum (map tokens_in (take i texts)) → i < length texts → text ≡ get_or texts i text →
+    end + text.1 ≡ sum (map tokens_in (take (i + 1) texts))
+end_more texts i end text e l is =
+    omega (arith, e, sum-map tokens_in (take i texts), sum-map tokens_in (take (i + 1) texts), sum_by_more tokens_in texts i text l, ap tokens_in is)
+
+pub ends_fit : (texts : List (List ℕ × ℕ)) (i end : ℕ) (text : List ℕ × ℕ) → end ≡ sum (map tokens_in (take i texts)) → i < length texts → text ≡ get_or texts i text →
+    end + text.1 ≤ sum (map tokens_in texts)
+ends_fit texts i end text e l is =
+    omega (arith, e, sum-map tokens_in (take i texts), sum-map tokens_in texts, sum_by_more_le tokens_in texts i text l, ap tokens_in is)
+
+pub ends_more : (texts : List (List ℕ × ℕ)) (ends : List ℕ) (i end : ℕ) (text : List ℕ × ℕ) → AreFirstEnds texts ends i → end ≡ sum (map tokens_in (take i texts)) → i < length texts → text ≡ get_or texts i text →
+    AreFirstEnds texts (ends ++ (end + text.1) ∷ []) (i + 1)
+ends_more texts ends i end text h e l is = record {
+  count = length-append ends ((end + text.1) ∷ []) ∙ ap (λ (n : ℕ). n + 1) h.count;
+  at = λ k m. by k (cases_lt k i) m;
+}
+  where
+    by : (k : ℕ) → (k < i) ⊎ (i ≤ k) → k < i + 1 → get_or (ends ++ (end + text.1) ∷ []) k 0 ≡ sum (map tokens_in (take (k + 1) texts))
+    by k (inl low) m = get_or_append_left ends ((end + text.1) ∷ []) 0 k (omega (arith, h.count)) ∙ h.at k low
+    by k (inr high) m =
+        let same : i ≡ k = omega arith in
+        subst (λ (n : ℕ). get_or (ends ++ (end + text.1) ∷ []) n 0 ≡ sum (map tokens_in (take (n + 1) texts))) same
+        (get_or_push ends (end + text.1) 0 i h.count ∙ end_more texts i end text e l is)
+
+-- ---- base attributes
+
+read_attr : (attrs : List Attr) (i : ℕ) (attr : Attr) → i < length attrs → attr ≡ get_or attrs i attr → attr_of attrs i ≡ attr
+read_attr attrs i attr l is = sym (is ∙ get_or_default attrs i attr (base_attr []) l)
+
+pub column_next : (attrs : List Attr) (i column : ℕ) (attr : Attr) (base : Bool) → i < length attrs → attr ≡ get_or attrs i attr → column ≡ column_of attrs i → base ≡ is_base attr → column + bool_byte base ≡ column_of attrs (i + 1)
+column_next attrs i column attr base l is e test = by base test
+  where
+    here : is_base (get_or attrs i attr) ≡ is_base attr
+    here = ap is_base (sym is)
+
+    by : (b : Bool) → b ≡ is_base attr → column + bool_byte b ≡ column_of attrs (i + 1)
+    by true t = omega (arith, e, count_by_more_yes is_base attrs i attr l (here ∙ sym t))
+    by false t = omega (arith, e, count_by_more_no is_base attrs i attr l (here ∙ sym t))
+
+pub base_more : (attrs : List Attr) (corpus : List Text) (tables : List AttrTables) (i column : ℕ) (attr : Attr) (made : AttrTables) → AreBaseTables attrs corpus tables i → i < length attrs → attr ≡ get_or attrs i attr →
+    column ≡ column_of attrs i → (attr.base ≡ None → AreAttrTables None (column_values column corpus) (column_values column corpus) made) → AreBaseTables attrs corpus (tables ++ made ∷ []) (i + 1)
+base_more attrs corpus tables i column attr made h l is e its = record {
+  count = length-append tables (made ∷ []) ∙ ap (λ (n : ℕ). n + 1) h.count;
+  at = λ k m base. by k (cases_lt k i) m base;
+}
+  where
+    Right : ℕ → AttrTables → Type 0
+    Right k t = AreAttrTables None (column_values (column_of attrs k) corpus) (column_values (column_of attrs k) corpus) t
+
+    by : (k : ℕ) → (k < i) ⊎ (i ≤ k) → k < i + 1 → (attr_of attrs k).base ≡ None →
+        AreAttrTables None (column_values (column_of attrs k) corpus) (column_values (column_of attrs k) corpus) (tables_at (tables ++ made ∷ []) k)
+    by k (inl low) m base = rw (get_or_append_left tables (made ∷ []) (tables_at [] 0) k (omega (arith, h.count))) (h.at k low base)
+    by k (inr high) m base =
+        let same : i ≡ k = omega arith in
+        let none : attr.base ≡ None = ap (λ (a : Attr). a.base) (sym (read_attr attrs i attr l is)) ∙ ap (λ (n : ℕ). (attr_of attrs n).base) same ∙ base in
+        subst (λ (n : ℕ). AreAttrTables None (column_values (column_of attrs n) corpus) (column_values (column_of attrs n) corpus) (tables_at (tables ++ made ∷ []) n)) same
+        (rw (get_or_push tables made (tables_at [] 0) i h.count) (subst (λ (n : ℕ). AreAttrTables None (column_values n corpus) (column_values n corpus) made) e (its none)))
+
+-- ---- mapped attributes
+
+module _ (images : List ℕ → List ℕ → List ℕ) (attrs : List Attr) (old now new : List AttrTables) (number : ℕ) (attr : Attr) (h : AreAllMapped images attrs old now number) (l : number < length attrs)
+    (count : length old ≡ length attrs) (is : attr ≡ get_or attrs number attr) (based : HasBase attrs old attr) where
+  its_base : attr_of attrs number ≡ attr
+  its_base = read_attr attrs number attr l is
+
+  -- an attribute that is not mapped
+  unmapped_more : new ≡ now → attr.base ≡ None → AreAllMapped images attrs old new (number + 1)
+  unmapped_more e none = record {
+    count = ap length e ∙ h.count;
+    kept = λ k b. ap (λ (ts : List AttrTables). tables_at ts k) e ∙ h.kept k b;
+    mapped = λ k base m some. rw e (by k base (cases_lt k number) m some);
+  }
+    where
+      by : (k base : ℕ) → (k < number) ⊎ (number ≤ k) → k < number + 1 → (attr_of attrs k).base ≡ Some base → AreMapped base (images (attr_of attrs k).mapper) (tables_at old base) (tables_at now k)
+      by k base (inl low) m some = h.mapped k base low some
+      by k base (inr high) m some =
+          let same : number ≡ k = omega arith in
+          let other : (attr_of attrs k).base ≡ None = ap (λ (n : ℕ). (attr_of attrs n).base) (sym same) ∙ ap (λ (a : Attr). a.base) its_base ∙ none in
+          absurd cc
+
+  -- one that is
+  mapped_more : (base : ℕ) (made : AttrTables) → attr.base ≡ Some base → new ≡ set now number made → AreMapped base (images attr.mapper) (tables_at now base) made → AreAllMapped images attrs old new (number + 1)
+  mapped_more base made some e right = record {
+    count = ap length e ∙ length-set now number made ∙ h.count;
+    kept = λ k b. ap (λ (ts : List AttrTables). tables_at ts k) e ∙ get_or-set_other now number k made (tables_at [] 0) (differs k b) ∙ h.kept k b;
+    mapped = λ k under m its. rw e (by k under (cases_lt k number) m its);
+  }
+    where
+      its : (attr_of attrs number).base ≡ Some base
+      its = ap (λ (a : Attr). a.base) its_base ∙ some
+
+      differs : (k : ℕ) → (attr_of attrs k).base ≡ None → k ≡ number → ⊥
+      differs k none same =
+          let at : (attr_of attrs k).base ≡ Some base = ap (λ (n : ℕ). (attr_of attrs n).base) same ∙ its in
+          cc
+
+      by : (k under : ℕ) → (k < number) ⊎ (number ≤ k) → k < number + 1 → (attr_of attrs k).base ≡ Some under → AreMapped under (images (attr_of attrs k).mapper) (tables_at old under) (tables_at (set now number made) k)
+      by k under (inl low) m it =
+          let d : (k ≡ number → ⊥) = λ same. omega arith in
+          rw (get_or-set_other now number k made (tables_at [] 0) d) (h.mapped k under low it)
+      by k under (inr high) m it =
+          let same : number ≡ k = omega arith in
+          let there : Some base ≡ Some under = sym its ∙ ap (λ (n : ℕ). (attr_of attrs n).base) same ∙ it in
+          let one : base ≡ under = cc in
+          let within : number < length now = omega (arith, h.count, count) in
+          let before : tables_at now base ≡ tables_at old base = h.kept base (based.is_base base some) in
+          subst (λ (n : ℕ). AreMapped under (images (attr_of attrs n).mapper) (tables_at old under) (tables_at (set now number made) n)) same
+          (rw (get_or-set_same now number made (tables_at [] 0) within, its_base)
+          (subst (λ (n : ℕ). AreMapped n (images attr.mapper) (tables_at old n) made) one (subst (λ (t : AttrTables). AreMapped base (images attr.mapper) t made) before right)))
+
+  pub all_mapped_more : IsMappedAt (images attr.mapper) attr.base number now new → AreAllMapped images attrs old new (number + 1)
+  all_mapped_more step = by attr.base refl step
+    where
+      by : (base : Option ℕ) → attr.base ≡ base → IsMappedAt (images attr.mapper) base number now new → AreAllMapped images attrs old new (number + 1)
+      by None e step = unmapped_more step e
+      by (Some base) e (made, is_set, right) = mapped_more base made e is_set right
+
+  -- the base of an attribute has its tables still
+  pub usable_still : (base : ℕ) → attr.base ≡ Some base → (base < length now) × AreUsable (tables_at now base)
+  usable_still base some = (omega (arith, based.there base some, h.count), subst AreUsable (sym (h.kept base (based.is_base base some))) (based.usable base some))
+
+  calls_same : (names : List (List ℕ)) (mapper : ℕ) → calls_of names now mapper attr.mapper attr.base ≡ calls_of names old mapper attr.mapper attr.base
+  calls_same names mapper = by attr.base refl
+    where
+      by : (base : Option ℕ) → attr.base ≡ base → calls_of names now mapper attr.mapper base ≡ calls_of names old mapper attr.mapper base
+      by None e = refl
+      by (Some base) e = rw (h.kept base (based.is_base base e)) refl
+
+  pub calls_more : (names : List (List ℕ)) (first before after : List ℕ) → AreCounted (calls_due names old (take number attrs)) first before → AreCounted (λ m. calls_of names now m attr.mapper attr.base) before after →
+      AreCounted (calls_due names old (take (number + 1) attrs)) first after
+  calls_more names first before after g f = record {
+    count = f.count ∙ g.count;
+    at = λ m low.
+        let due : calls_due names old (take (number + 1) attrs) m ≡ calls_due names old (take number attrs) m + calls_of names now m attr.mapper attr.base =
+        sum-map (λ (a : Attr). calls_of names old m a.mapper a.base) (take (number + 1) attrs) ∙ sum_by_more (λ (a : Attr). calls_of names old m a.mapper a.base) attrs number attr l
+        ∙ ap₂ ◌+◌ (sym (sum-map (λ (a : Attr). calls_of names old m a.mapper a.base) (take number attrs))) (ap (λ (a : Attr). calls_of names old m a.mapper a.base) (sym is) ∙ sym (calls_same names m)) in
+        f.at m (omega (arith, g.count)) ∙ ap (λ (n : ℕ). counted n (calls_of names now m attr.mapper attr.base)) (g.at m low)
+        ∙ counted_more (get_or first m 0) (calls_due names old (take number attrs) m) (calls_of names now m attr.mapper attr.base) ∙ ap (counted (get_or first m 0)) (sym due);
+  }
+
+-- ---- all tables
+
+usable_from : (values : List (List ℕ)) (tables : AttrTables) → AreAttrTables None values values tables → length values ≤ tokens_limit → AreUsable tables
+usable_from values tables h few = record { few = omega (arith, h.numbers.count); within = numbers_within tables.numbers values tables.lexicon h.numbers }
+
+pub have_bases : (registry : Registry) (corpus : List Text) (tables : List AttrTables) → ValidRegistry registry → total_tokens corpus ≤ tokens_limit → AreBaseTables registry.attrs corpus tables (length registry.attrs) →
+    All (HasBase registry.attrs tables) registry.attrs
+have_bases registry corpus tables valid few h = λ k d l.
+    let its : ValidAttr registry.attrs (get_or registry.attrs k d) = valid.attrs k d l in
+    record {
+      there = λ base e. omega (arith, within base (its.based base e), h.count);
+      is_base = λ base e. none base (its.based base e);
+      usable = λ base e.
+          let values = column_values (column_of registry.attrs base) corpus in
+          usable_from values (tables_at tables base) (h.at base (within base (its.based base e)) (none base (its.based base e))) (omega (arith, length-column_values (column_of registry.attrs base) corpus));
+    }
+  where
+    within : (base : ℕ) → IsBaseAt registry.attrs base → base < length registry.attrs
+    within base is = slice_get_within registry.attrs base is.attr is.there
+
+    none : (base : ℕ) → IsBaseAt registry.attrs base → (attr_of registry.attrs base).base ≡ None
+    none base is = ap (λ (a : Attr). a.base) (get_or_from_slice_get registry.attrs base is.attr (base_attr []) is.there) ∙ is.base
+
+module _ (images : List ℕ → List ℕ → List ℕ) (registry : Registry) (corpus : List Text) (first tables : List AttrTables) (bases : All (HasBase registry.attrs first) registry.attrs)
+    (made : AreBaseTables registry.attrs corpus first (length registry.attrs)) (mapped : AreAllMapped images registry.attrs first tables (length registry.attrs)) where
+  has_base : (number : ℕ) → number < length registry.attrs → HasBase registry.attrs first (attr_at registry number)
+  has_base number l = bases number (base_attr []) l
+
+  attr_made : (number : ℕ) → number < length registry.attrs →
+      AreAttrTables (attr_at registry number).base (attr_values images registry corpus number)
+      (made_of (images (attr_at registry number).mapper) (attr_values images registry corpus number) (λ base. (tables_at tables base).lexicon) (attr_at registry number).base)
+      (tables_at tables number)
+  attr_made number l = by (attr_at registry number).base refl
+    where
+      image : List ℕ → List ℕ
+      image = images (attr_at registry number).mapper
+
+      by : (base : Option ℕ) → (attr_at registry number).base ≡ base →
+          AreAttrTables base (made_of (images (attr_at registry number).mapper) (base_values registry corpus number) (base_values registry corpus) base)
+          (made_of (images (attr_at registry number).mapper) (made_of (images (attr_at registry number).mapper) (base_values registry corpus number) (base_values registry corpus) base) (λ b. (tables_at tables b).lexicon) base)
+          (tables_at tables number)
+      by None e = rw (mapped.kept number e) (made.at number l e)
+      by (Some base) e =
+          let has = has_base number l in
+          let none = has.is_base base e in
+          let low : base < length registry.attrs = omega (arith, has.there base e, made.count) in
+          let all : AreAttrTables (Some base) (map (images (attr_at registry number).mapper) (base_values registry corpus base)) (map (images (attr_at registry number).mapper) (tables_at first base).lexicon) (tables_at tables number) =
+          mapped_made base (images (attr_at registry number).mapper) (base_values registry corpus base) (tables_at first base) (tables_at tables number) (made.at base low none) (mapped.mapped number base l e) in
+          rw (mapped.kept base none) all
+
+  pub all_made : (heads : List (List ℕ × ℕ)) (structs : List (List Instance)) → heads ≡ heads_of corpus → AreInstances corpus structs (length registry.kinds) →
+      AreTablesOf images registry corpus (record { texts = heads; attrs = tables; structs = structs })
+  all_made heads structs e inst = record {
+    texts = e;
+    attr_count = mapped.count ∙ made.count;
+    attrs = λ number l. attr_made number l;
+    kind_count = inst.count;
+    structs = λ kind l. inst.at kind l;
+  }
+
+  due_same : (names : List (List ℕ)) (mapper : ℕ) (attrs : List Attr) → All (HasBase registry.attrs first) attrs → calls_due names tables attrs mapper ≡ calls_due names first attrs mapper
+  due_same names mapper attrs all = ap sum (each attrs all)
+    where
+      one : (attr : Attr) → HasBase registry.attrs first attr → (base : Option ℕ) → attr.base ≡ base → calls_of names tables mapper attr.mapper base ≡ calls_of names first mapper attr.mapper base
+      one attr has None e = refl
+      one attr has (Some base) e = rw (mapped.kept base (has.is_base base e)) refl
+
+      each : (attrs : List Attr) → All (HasBase registry.attrs first) attrs → map (λ attr. calls_of names tables mapper attr.mapper attr.base) attrs ≡ map (λ attr. calls_of names first mapper attr.mapper attr.base) attrs
+      each [] all = refl
+      each (attr ∷ attrs) all = ap₂ (λ (n : ℕ) (ns : List ℕ). n ∷ ns) (one attr (all 0 attr (omega arith)) attr.base refl) (each attrs (λ k d l. all (suc k) d (omega arith)))
+
+  pub all_counted : (names : List (List ℕ)) (old new : List ℕ) → AreCounted (calls_due names first registry.attrs) old new → AreCounted (calls_due names tables registry.attrs) old new
+  all_counted names old new h = record { count = h.count; at = λ m l. h.at m l ∙ ap (counted (get_or old m 0)) (sym (due_same names m registry.attrs bases)) }

@@ -1,0 +1,7 @@
+pub mod Assembled
+pub mod Known
+pub mod Mappings
+pub mod Numbered
+pub mod Parted
+pub mod Slots
+pub mod Valued

@@ -1,0 +1,24 @@
+use Rattle.std.proofs.Common.{ℕ, ◌∙◌, ap, arith}
+use Rattle.mt_mapper.specs.Calls.{counted}
+use Rattle.mt_mapper.proofs.Counts.{halfway, counted_more}
+use Rattle.mt_segment.proofs.Mappings.{images_more}
+use Rattle.mt_segment.proofs.mapped.number_images.Goals as goal
+
+pub returns-in_err-map-clause-halfway : goal.returns-in_err-map-clause-halfway
+returns-in_err-map-clause-halfway g c =
+    halfway c.from_residual-in_err-map.result _ _ c.loop-id.id _ _ c.loop-id.invariant.calls c.map.ensures.calls (omega arith)
+
+pub returns-in_err-push-clause-halfway : goal.returns-in_err-push-clause-halfway
+returns-in_err-push-clause-halfway g c =
+    halfway c.from_residual-in_err-push.result _ _ c.loop-id.id _ _ c.loop-id.invariant.calls c.map.ensures.calls (omega arith)
+
+pub loop-id-preserved : goal.loop-id-preserved
+loop-id-preserved g c =
+    let m = g.M.Mapper in
+    record {
+      image = c.map.ensures.image ∙ c.loop-id.invariant.image;
+      called = c.map.ensures.called ∙ c.loop-id.invariant.called;
+      calls = c.map.ensures.calls ∙ ap (λ (n : ℕ). counted n 1) c.loop-id.invariant.calls ∙ counted_more (m.calls c.args.mapper.now) c.loop-id.id 1;
+      images = images_more (m.image c.args.mapper.now) (m.image c.loop-id.mapper) c.args.lexicon.now c.loop-id.images c.push.new.self c.loop-id.id c.value.result.now c.as_str.result.now
+          c.loop-id.invariant.images c.value.ensures (c.as_str.ensures.value ∙ c.in_ok-map.ensures.out) c.loop-id.invariant.image c.in_ok-push.ensures.ok;
+    }

@@ -1,0 +1,190 @@
+//! Building a segment.
+
+ghost use Rattle.std.specs.Prelude.{◌≡◌, ℕ, ◌<◌, ◌≤◌, None, Some, length, map, sum, IfOk, OnOk};
+ghost use Rattle.std.specs.List.{All, Contains};
+ghost use Rattle.mt_text_spec.specs.Registries.{ValidRegistry, base_count};
+ghost use Rattle.mt_text_spec.specs.Texts.{ValidCorpus, text_limit, texts_limit, tokens_limit, total_tokens};
+ghost use Rattle.mt_segment_spec.specs.Tables.{AreAttrTables, AreTablesOf, column_values, heads_of, tables_at};
+ghost use Rattle.mt_segment.specs.Building.{AreAllMapped, AreBaseTables, AreInstances, AreUsable, HasBase, IsMappedAt};
+ghost use Rattle.mt_segment.specs.Ends.{AreEndsOf};
+ghost use Rattle.mt_segment.specs.Mappers.{AreCounted, AreThere, calls_due, calls_of, image_by, named};
+ghost use Rattle.mt_segment.specs.Parts.{HaveColumn};
+
+use super::columns::base_tables;
+use super::mapped::map_by_name;
+use super::numbering::Numbering;
+use super::segment::Segment;
+use super::structs::{SegStruct, instances};
+use super::table::AttrTables;
+use mt_base::{Attr, List, NoMemory, Registry, Text, Value};
+use mt_mapper::Mapper;
+use std::alloc::Global;
+
+impl Segment {
+    /// The segment of these texts under a registry, by the mappers that it names. Each mapped attribute calls its mapper once for each distinct value of its base.
+    pub fn build<M: Mapper>(
+        alloc: Global,
+        texts: &[Text],
+        registry: &Registry,
+        mappers: &mut [M],
+    ) -> Result<Self, NoMemory>
+        requires registry { ValidRegistry registry.now }
+        requires texts { ValidCorpus registry.now texts.now }
+        requires some { 0 < length texts.now }
+        requires mappers { AreThere (map M.called mappers.old) registry.now.attrs }
+        ensures tables { IfOk result (λ segment. AreTablesOf (image_by (named M.called M.image mappers.old)) registry.now texts.now segment) }
+        ensures same { named M.called M.image mappers.new ≡ named M.called M.image mappers.old }
+        ensures calls { IfOk result (λ segment. AreCounted (calls_due (map M.called mappers.old) segment.attrs registry.now.attrs) (map M.calls mappers.old) (map M.calls mappers.new)) }
+    {
+        let heads = heads(alloc, texts)?;
+        let ends = ends(alloc, heads.as_slice())?;
+        let attrs = registry.attrs().as_slice();
+        let mut tables = all_base_tables(alloc, texts, attrs, ends[ends.len() - 1] as usize)?;
+        map_all(alloc, attrs, tables.as_mut_slice(), mappers)?;
+        let structs = all_instances(alloc, texts, registry.kinds().len() as u16)?;
+        Ok(Segment::from_parts(heads, ends, List::from_vec(tables), structs))
+    }
+}
+
+/// The names and lengths of texts.
+fn heads(alloc: Global, texts: &[Text]) -> Result<List<(Value, u32)>, NoMemory>
+    requires { All (λ text. length text.tokens ≤ text_limit) texts.now }
+    ensures { IfOk result (λ heads. heads ≡ heads_of texts.now) }
+{
+    let mut heads = List::with_capacity(alloc, texts.len())?;
+    for text in texts {
+        heads.push((text.name().copy(alloc)?, text.len() as u32))?;
+    }
+    Ok(heads)
+}
+
+/// The places where texts of these lengths end.
+pub(crate) fn ends(alloc: Global, texts: &[(Value, u32)]) -> Result<Vec<u32>, NoMemory>
+    requires { sum (map (λ head. head.1) texts.now) < 4294967296 }
+    ensures { IfOk result (λ ends. AreEndsOf texts.now ends.items) }
+{
+    let mut ends = Vec::with_capacity(alloc, texts.len())?;
+    let mut end = 0;
+    for text in texts {
+        end += text.1;
+        ends.push(end)?;
+    }
+    Ok(ends)
+}
+
+/// The tables of all attributes, of which those of the mapped ones are not made yet.
+fn all_base_tables(
+    alloc: Global,
+    texts: &[Text],
+    attrs: &[Attr],
+    tokens: usize,
+) -> Result<Vec<AttrTables>, NoMemory>
+    requires fits { total_tokens texts.now ≤ tokens_limit }
+    requires few { length attrs.now ≤ 16 }
+    requires values { All (λ text. All (λ token. length token.values ≡ base_count attrs.now) text.tokens) texts.now }
+    ensures { IfOk result (λ tables. AreBaseTables attrs.now texts.now tables.items (length attrs.now)) }
+{
+    let mut tables = Vec::with_capacity(alloc, attrs.len())?;
+    let mut column = 0;
+    for attr in attrs {
+        tables.push(first_tables(alloc, texts, attr, column, tokens)?)?;
+        column += attr.is_base() as usize;
+    }
+    Ok(tables)
+}
+
+/// The tables of an attribute if it is a base attribute.
+fn first_tables(
+    alloc: Global,
+    texts: &[Text],
+    attr: &Attr,
+    column: usize,
+    tokens: usize,
+) -> Result<AttrTables, NoMemory>
+    requires fits { total_tokens texts.now ≤ tokens_limit }
+    requires column { attr.now.base ≡ None → HaveColumn column texts.now }
+    ensures { IfOk result (λ tables. attr.now.base ≡ None → AreAttrTables None (column_values column texts.now) (column_values column texts.now) tables) }
+{
+    match attr.base() {
+        None => base_tables(alloc, texts, column, tokens),
+        Some(base) => unmade(alloc, base),
+    }
+}
+
+/// What stands for the tables of a mapped attribute until they are made.
+fn unmade(alloc: Global, base: u16) -> Result<AttrTables, NoMemory> {
+    let (lexicon, numbers) = Numbering::new(alloc, 0)?.finish()?;
+    Ok(AttrTables {
+        base: Some(base),
+        lexicon,
+        numbers,
+        postings: List::new(alloc),
+    })
+}
+
+/// Makes the tables of the mapped attributes.
+fn map_all<M: Mapper>(
+    alloc: Global,
+    attrs: &[Attr],
+    tables: &mut [AttrTables],
+    mappers: &mut [M],
+) -> Result<(), NoMemory>
+    requires count { length tables.old ≡ length attrs.now }
+    requires bases { All (HasBase attrs.now tables.old) attrs.now }
+    requires there { AreThere (map M.called mappers.old) attrs.now }
+    ensures length { length tables.new ≡ length tables.old }
+    ensures tables { OnOk result (AreAllMapped (image_by (named M.called M.image mappers.old)) attrs.now tables.old tables.new (length attrs.now)) }
+    ensures same { named M.called M.image mappers.new ≡ named M.called M.image mappers.old }
+    ensures calls { OnOk result (AreCounted (calls_due (map M.called mappers.old) tables.old attrs.now) (map M.calls mappers.old) (map M.calls mappers.new)) }
+{
+    for (number, attr) in attrs.iter().enumerate() {
+        map_attr(alloc, number, attr, tables, mappers)?;
+    }
+    Ok(())
+}
+
+/// Makes the tables of an attribute if it is a mapped one.
+fn map_attr<M: Mapper>(
+    alloc: Global,
+    number: usize,
+    attr: &Attr,
+    tables: &mut [AttrTables],
+    mappers: &mut [M],
+) -> Result<(), NoMemory>
+    requires number { number < length tables.old }
+    requires there { (b : ℕ) → attr.now.base ≡ Some b → Contains (map M.called mappers.old) attr.now.mapper }
+    requires base { (b : ℕ) → attr.now.base ≡ Some b → (b < length tables.old) × AreUsable (tables_at tables.old b) }
+    ensures length { length tables.new ≡ length tables.old }
+    ensures tables { OnOk result (IsMappedAt (image_by (named M.called M.image mappers.old) attr.now.mapper) attr.now.base number tables.old tables.new) }
+    ensures same { named M.called M.image mappers.new ≡ named M.called M.image mappers.old }
+    ensures calls { OnOk result (AreCounted (λ m. calls_of (map M.called mappers.old) tables.old m attr.now.mapper attr.now.base) (map M.calls mappers.old) (map M.calls mappers.new)) }
+{
+    let Some(base) = attr.base() else {
+        return Ok(());
+    };
+    let made = map_by_name(
+        alloc,
+        base,
+        &tables[base as usize],
+        attr.mapper().as_str(),
+        mappers,
+    )?;
+    tables[number] = made;
+    Ok(())
+}
+
+/// The instances of each kind.
+fn all_instances(
+    alloc: Global,
+    texts: &[Text],
+    kinds: u16,
+) -> Result<List<List<SegStruct>>, NoMemory>
+    requires { length texts.now ≤ texts_limit }
+    ensures { IfOk result (λ all. AreInstances texts.now all kinds) }
+{
+    let mut all = List::with_capacity(alloc, kinds as usize)?;
+    for kind in 0..kinds {
+        all.push(instances(alloc, texts, kind)?)?;
+    }
+    Ok(all)
+}

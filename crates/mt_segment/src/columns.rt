@@ -1,0 +1,50 @@
+//! The tables of base attributes.
+
+ghost use Rattle.std.specs.Prelude.{◌≡◌, ◌+◌, ◌-◌, ◌^◌, ◌<◌, ◌≤◌, ◌++◌, length, map, None, IfOk, OnOk};
+ghost use Rattle.std.specs.List.{All};
+ghost use Rattle.mt_text_spec.specs.Texts.{total_tokens, tokens_limit, value_of};
+ghost use Rattle.mt_segment_spec.specs.Tables.{AreAttrTables, column_values};
+ghost use Rattle.mt_segment.specs.Parts.{HaveColumn};
+
+use super::inverting::postings_of;
+use super::numbering::Numbering;
+use super::table::AttrTables;
+use mt_base::{NoMemory, Text};
+use std::alloc::Global;
+
+/// The tables of the base attribute that has this place among the base attributes. The number of tokens is known, and tells how much room is wanted.
+pub(crate) fn base_tables(
+    alloc: Global,
+    texts: &[Text],
+    column: usize,
+    tokens: usize,
+) -> Result<AttrTables, NoMemory>
+    requires fits { total_tokens texts.now ≤ tokens_limit }
+    requires column { HaveColumn column texts.now }
+    ensures { IfOk result (λ tables. AreAttrTables None (column_values column texts.now) (column_values column texts.now) tables) }
+{
+    let mut numbering = Numbering::new(alloc, tokens)?;
+    for text in texts {
+        add_text(&mut numbering, text, column)?;
+    }
+    let (lexicon, numbers) = numbering.finish()?;
+    let postings = postings_of(alloc, numbers.as_slice(), lexicon.len() as usize)?;
+    Ok(AttrTables {
+        base: None,
+        lexicon,
+        numbers,
+        postings,
+    })
+}
+
+/// Adds the values of a text's tokens.
+fn add_text(numbering: &mut Numbering, text: &Text, column: usize) -> Result<(), NoMemory>
+    requires fits { length numbering.old + length text.now.tokens < 2 ^ 32 - 1 }
+    requires column { All (λ token. column < length token.values) text.now.tokens }
+    ensures { OnOk result (numbering.new ≡ numbering.old ++ map (λ token. value_of token column) text.now.tokens) }
+{
+    for token in text.tokens().as_slice() {
+        numbering.push(token.value(column).as_str())?;
+    }
+    Ok(())
+}

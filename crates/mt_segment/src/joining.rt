@@ -1,0 +1,88 @@
+//! A segment put together of its tables.
+
+ghost use Rattle.std.specs.Prelude.{◌≡◌, List as Items, IfOk};
+ghost use Rattle.mt_segment_spec.specs.Tables as spec;
+ghost use Rattle.mt_segment_spec.specs.Tables.{AreTablesUnder, HaveParts};
+ghost use Rattle.mt_segment.specs.Joined.{AreJoined, HasNumbers, TakesNumbers};
+
+use super::building::ends;
+use super::queue::Queue;
+use super::segment::Segment;
+use super::structs::SegStruct;
+use super::table::{AttrTables, MappedTable};
+use mt_base::{Attr, List, NoMemory, Registry, Value};
+use mt_lexicon::Lexicon;
+use mt_postings::Postings;
+use std::alloc::Global;
+
+impl Segment {
+    /// The segment with these tables, which are those of some valid texts: the texts' names and lengths; per attribute the lexicon, and for each of its values
+    /// the places; per base attribute the column; per mapped attribute the table; per kind of structure the instances. No mapper is called. Without memory
+    /// the tables are dropped.
+    pub fn of_tables(
+        alloc: Global,
+        registry: &Registry,
+        texts: List<(Value, u32)>,
+        lexicons: List<Lexicon>,
+        columns: List<List<u32>>,
+        tables: List<MappedTable>,
+        postings: List<List<Postings>>,
+        structs: List<List<SegStruct>>,
+    ) -> Result<Self, NoMemory>
+        requires { (t : spec.Tables) × AreTablesUnder registry.now t × HaveParts t texts lexicons columns tables postings structs }
+        ensures { IfOk result (λ segment. (t : spec.Tables) → AreTablesUnder registry.now t → HaveParts t texts lexicons columns tables postings structs → segment ≡ t) }
+    {
+        let ends = ends(alloc, texts.as_slice())?;
+        let attrs = join(
+            alloc,
+            registry.attrs().as_slice(),
+            Queue::new(lexicons.into_vec()),
+            Queue::new(columns.into_vec()),
+            Queue::new(tables.into_vec()),
+            Queue::new(postings.into_vec()),
+        )?;
+        Ok(Segment::from_parts(texts, ends, attrs, structs))
+    }
+}
+
+/// The tables of attributes, put together of their parts.
+fn join(
+    alloc: Global,
+    attrs: &[Attr],
+    mut lexicons: Queue<Lexicon>,
+    mut columns: Queue<List<u32>>,
+    mut tables: Queue<MappedTable>,
+    mut postings: Queue<List<Postings>>,
+) -> Result<List<AttrTables>, NoMemory>
+    requires { (t : Items spec.AttrTables) × AreJoined attrs.now t lexicons columns tables postings }
+    ensures { IfOk result (λ all. (t : Items spec.AttrTables) → AreJoined attrs.now t lexicons columns tables postings → all ≡ t) }
+{
+    let mut all = List::with_capacity(alloc, attrs.len())?;
+    for attr in attrs {
+        let lexicon = lexicons.take();
+        let numbers = take_numbers(attr.base(), &mut columns, &mut tables);
+        let postings = postings.take();
+        all.push(AttrTables {
+            base: attr.base(),
+            lexicon,
+            numbers,
+            postings,
+        })?;
+    }
+    Ok(all)
+}
+
+/// The next column for a base attribute, the next table for a mapped one.
+fn take_numbers(
+    base: Option<u16>,
+    columns: &mut Queue<List<u32>>,
+    tables: &mut Queue<MappedTable>,
+) -> MappedTable
+    requires { HasNumbers base columns.old tables.old }
+    ensures { TakesNumbers base columns.old tables.old result columns.new tables.new }
+{
+    match base {
+        None => MappedTable::new(columns.take()),
+        Some(_) => tables.take(),
+    }
+}

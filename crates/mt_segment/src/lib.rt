@@ -1,0 +1,29 @@
+//! Segments: some texts as the tables that the engine searches.
+//!
+//! A `Segment` has for each attribute its distinct values, the number of each token's value and the places of each value, and for each kind of structure its
+//! instances. Contracts see it as the tables of `mt_segment_spec`, which are always those of valid texts. The texts themselves are not kept.
+#![tactic(auto)]
+
+mod building;
+mod columns;
+mod inverting;
+mod joining;
+mod mapped;
+mod numbering;
+mod queue;
+mod segment;
+mod structs;
+mod table;
+
+pub use segment::Segment;
+pub use structs::SegStruct;
+pub use table::MappedTable;
+
+fn shared<T: Send + Sync>() {}
+
+/// That threads may share segments and their parts is proved by this function.
+pub fn are_shared() {
+    shared::<Segment>();
+    shared::<SegStruct>();
+    shared::<MappedTable>();
+}

@@ -1,0 +1,126 @@
+//! The tables of mapped attributes.
+
+ghost use Rattle.std.specs.Prelude.{◌≡◌, ◌<◌, ◌==◌, length, map, if◌then◌else◌, IfOk, OnOk, OnErr, IfSome, IfNone};
+ghost use Rattle.std.specs.List.{All, Contains};
+ghost use Rattle.mt_lexicon.specs.Joins.{renumbered};
+ghost use Rattle.mt_mapper.specs.Calls.{counted, CountedAtMost};
+ghost use Rattle.mt_segment.specs.Mappers.{AreMade, AreMapped, AreCounted, AreCountedAtMost, image_by, named, number_of};
+
+use super::inverting::postings_of;
+use super::numbering::Numbering;
+use super::table::{AttrTables, MappedTable};
+use mt_base::NoMemory;
+use mt_lexicon::Lexicon;
+use mt_mapper::Mapper;
+use std::alloc::Global;
+
+/// The number of the first mapper of this name.
+fn find<M: Mapper>(mappers: &[M], name: &str) -> Option<usize>
+    ensures found { IfSome result (λ at. at ≡ number_of (map M.called mappers.now) name.now) }
+    ensures within { IfSome result (λ at. at < length mappers.now) }
+    ensures none { IfNone result (¬ Contains (map M.called mappers.now) name.now) }
+{
+    for (at, mapper) in mappers.iter().enumerate() {
+        if name == mapper.name() {
+            return Some(at);
+        }
+    }
+    None
+}
+
+/// The tables of the attribute whose base has this number and these tables, by the mapper of this name. It is called once for each distinct value of the base,
+/// and no other mapper is called.
+pub(crate) fn map_by_name<M: Mapper>(
+    alloc: Global,
+    base: u16,
+    under: &AttrTables,
+    name: &str,
+    mappers: &mut [M],
+) -> Result<AttrTables, NoMemory>
+    requires there { Contains (map M.called mappers.old) name.now }
+    requires few { length under.now.numbers < 4294967295 }
+    requires within { All (λ n. n < length under.now.lexicon) under.now.numbers }
+    ensures tables { IfOk result (λ tables. AreMapped base (image_by (named M.called M.image mappers.old) name.now) under.now tables) }
+    ensures same { named M.called M.image mappers.new ≡ named M.called M.image mappers.old }
+    ensures calls { OnOk result (AreCounted (λ m. if number_of (map M.called mappers.old) name.now == m then length under.now.lexicon else 0) (map M.calls mappers.old) (map M.calls mappers.new)) }
+    ensures halfway { OnErr result (AreCountedAtMost (λ m. if number_of (map M.called mappers.old) name.now == m then length under.now.lexicon else 0) (map M.calls mappers.old) (map M.calls mappers.new)) }
+{
+    match find(mappers, name) {
+        Some(at) => mapped_tables(alloc, base, under, &mut mappers[at]),
+        None => unreachable!(),
+    }
+}
+
+/// The tables of the attribute whose base has this number and these tables. The mapper is called once for each distinct value of the base.
+fn mapped_tables<M: Mapper>(
+    alloc: Global,
+    base: u16,
+    under: &AttrTables,
+    mapper: &mut M,
+) -> Result<AttrTables, NoMemory>
+    requires few { length under.now.numbers < 4294967295 }
+    requires within { All (λ n. n < length under.now.lexicon) under.now.numbers }
+    ensures tables { IfOk result (λ tables. AreMapped base (M.image mapper.old) under.now tables) }
+    ensures calls { OnOk result (M.calls mapper.new ≡ counted (M.calls mapper.old) (length under.now.lexicon)) }
+    ensures halfway { OnErr result (CountedAtMost (M.calls mapper.old) (length under.now.lexicon) (M.calls mapper.new)) }
+    ensures image { M.image mapper.new ≡ M.image mapper.old }
+    ensures called { M.called mapper.new ≡ M.called mapper.old }
+{
+    let images = number_images(alloc, &under.lexicon, mapper)?;
+    tables_of(alloc, base, under, images)
+}
+
+/// The tables of the attribute whose base has this number and these tables, and whose values are these for those of the base.
+fn tables_of(
+    alloc: Global,
+    base: u16,
+    under: &AttrTables,
+    images: Numbering,
+) -> Result<AttrTables, NoMemory>
+    requires few { length under.now.numbers < 4294967295 }
+    requires within { All (λ n. n < length images) under.now.numbers }
+    ensures { IfOk result (λ tables. AreMade base images under.now.numbers tables) }
+{
+    let (lexicon, numbers) = images.finish()?;
+    let column = through(alloc, under.numbers.as_slice(), &numbers)?;
+    let postings = postings_of(alloc, column.as_slice(), lexicon.len() as usize)?;
+    Ok(AttrTables {
+        base: Some(base),
+        lexicon,
+        numbers,
+        postings,
+    })
+}
+
+/// The images of the values of a lexicon. The mapper is called once for each; where memory is wanted half-way, those calls are counted that were made.
+fn number_images<M: Mapper>(
+    alloc: Global,
+    lexicon: &Lexicon,
+    mapper: &mut M,
+) -> Result<Numbering, NoMemory>
+    ensures images { IfOk result (λ all. all ≡ map (M.image mapper.old) lexicon.now) }
+    ensures calls { OnOk result (M.calls mapper.new ≡ counted (M.calls mapper.old) (length lexicon.now)) }
+    ensures halfway { OnErr result (CountedAtMost (M.calls mapper.old) (length lexicon.now) (M.calls mapper.new)) }
+    ensures image { M.image mapper.new ≡ M.image mapper.old }
+    ensures called { M.called mapper.new ≡ M.called mapper.old }
+{
+    let mut images = Numbering::new(alloc, lexicon.len() as usize)?;
+    let mut image = String::new(alloc);
+    for id in 0..lexicon.len() {
+        mapper.map(lexicon.value(id), &mut image)?;
+        images.push(image.as_str())?;
+    }
+    Ok(images)
+}
+
+/// A column after each of its numbers went through a table.
+fn through(alloc: Global, column: &[u32], table: &MappedTable) -> Result<Vec<u32>, NoMemory>
+    requires { All (λ n. n < length table.now) column.now }
+    ensures { IfOk result (λ v. v.items ≡ renumbered table.now column.now) }
+{
+    let mut numbers = Vec::with_capacity(alloc, column.len())?;
+    for number in column {
+        numbers.push(table.get(*number))?;
+    }
+    Ok(numbers)
+}
