@@ -1,3 +1,9 @@
 pub mod World
+pub mod Refusals
+pub mod Files
+pub mod Registering
+pub mod Adding
+pub mod Counting
+pub mod Steps
 pub mod Replies
 pub mod Runs

@@ -1,6 +1,13 @@
+pub mod Corpora
+pub mod Fetches
 pub mod Literals
 pub mod Meanings
+pub mod Registering
+pub mod Adding
+pub mod Counting
+pub mod Keeping
+pub mod Unbuilt
 pub mod Talks
 pub mod Runs
 pub mod Endings
-pub mod Corpora
+pub mod Standard

@@ -1,80 +1,186 @@
 -- Parts of a run, one after another.
-use Rattle.std.proofs.Common.{◌≡◌, ◌≢◌, ℕ, ◌<◌, ◌≤◌, inl, inr, Bool, true, false, List, [], ◌∷◌, ◌++◌, length, Option, Some, None, arith, refl, sym, append_assoc, append-nil, subst, MatchOption}
+use Rattle.std.proofs.Common.{◌≡◌, ◌≢◌, ℕ, suc, ◌+◌, ◌-◌, ◌<◌, ◌≤◌, inl, inr, Bool, true, false, List, [], ◌∷◌, ◌++◌, length, take, Option, Some, None, arith, refl, sym, ◌∙◌, ap, append_assoc, append-nil, length-append, subst, MatchOption}
+use Rattle.std.specs.List.{All}
 use Rattle.std.proofs.lemmas.Grind.{common_steps}
-use Rattle.mt_outside.specs.Told.{Told}
+use Rattle.std.proofs.lemmas.List.Elements.{All-append, All-take, All-nil, All-cons}
+use Rattle.mt_shelf_spec.specs.Files.{Files}
+use Rattle.mt_script_spec.specs.Commands.{Command, Quit}
 use Rattle.mt_script_spec.specs.Script.{Item, Given, Bad, CutShort, ClosedLine, FirstLine, Body, Whole, Commanded, Refused, Broken, Begins, Nothing, Skips, Then, IsRest}
-use Rattle.mt_session_spec.specs.World.{World}
-use Rattle.mt_session_spec.specs.Replies.{ItemStep, Replies}
+use Rattle.mt_session_spec.specs.World.{World, Held}
+use Rattle.mt_session_spec.specs.Steps.{IsSaid}
+use Rattle.mt_session_spec.specs.Replies.{ItemStep, Replies, NoQuit}
+use Rattle.mt_session_spec.specs.Runs.{Outside, Seen, Leaves}
+use Rattle.mt_script.specs.Seen.{command_of}
 use Rattle.mt_script.specs.declared.command.Next.{Next}
 use Rattle.mt_script.specs.declared.command.Next.TheVariants.{Command as NextCommand, Bad as NextBad, CutShort as NextCutShort, More as NextMore, End as NextEnd, NoMemory as NextNoMemory}
 use Rattle.mt_script.specs.Scans.{Gives}
 use Rattle.mt_script.proofs.Items.{then_begins}
-use Rattle.mt_shell.specs.Reads.{Replied, RepliedInPart, Progress, ProgressInPart, item_of, IsLast}
+use Rattle.mt_shell.specs.declared.talk.Flow.TheVariants.{On, Over}
+use Rattle.mt_shell.specs.Reads.{IsTold, Tells, within, Replied, RepliedInPart, Progress, ProgressToQuit, ProgressInPart, item_of, IsSaidNext, IsLast}
+
+-- ## What is outside
+
+-- what is outside after so much
+abbrev pub moved : Outside → List ℕ → Files → List (List ℕ) → Outside
+moved start output stored gained = record { written = start.written ++ output; files = stored; failed = start.failed ++ gained }
+
+pub told_after : (start : Outside) (output : List ℕ) (stored : Files) (gained : List (List ℕ)) (end : Seen) → Leaves start output stored gained end → IsTold end (moved start output stored gained)
+told_after start output stored gained end l = record { written = l.written; files = l.files; failed = l.failed }
+
+-- one thing after another
+pub later : (start : Outside) (output : List ℕ) (stored : Files) (gained : List (List ℕ)) (more : List ℕ) (files : Files) (failed : List (List ℕ)) (end : Seen) →
+    Leaves (moved start output stored gained) more files failed end → Leaves start (output ++ more) files (gained ++ failed) end
+later start output stored gained more files failed end l = record {
+  written = rw (l.written, append_assoc) refl;
+  files = l.files;
+  failed = rw (l.failed, append_assoc) refl;
+}
+
+pub nothing_yet : (start : Outside) (at : Seen) → IsTold at start → Leaves start [] start.files [] at
+nothing_yet start at t = record { written = rw (append-nil start.written) t.written; files = t.files; failed = rw (append-nil start.failed) t.failed }
+
+-- ## Items without a `quit`
+
+pub none_quits : NoQuit []
+none_quits = All-nil (λ item. item ≢ Given Quit)
+
+one_goes_on : (item : Item) → item ≢ Given Quit → NoQuit (item ∷ [])
+one_goes_on item h = All-cons (λ item. item ≢ Given Quit) item [] h none_quits
+
+pub none_quit : (xs ys : List Item) → NoQuit xs → NoQuit ys → NoQuit (xs ++ ys)
+none_quit xs ys a b = All-append (λ item. item ≢ Given Quit) xs ys a b
+
+front_quits : (n : ℕ) (xs : List Item) → NoQuit xs → NoQuit (take n xs)
+front_quits n xs a = All-take (λ item. item ≢ Given Quit) n xs a
+
+longer : (x : Item) (xs : List Item) (y : Item) (ys : List Item) → length (x ∷ (xs ++ y ∷ ys)) - 1 ≡ suc (length (xs ++ y ∷ ys) - 1)
+longer x xs y ys = let some : length (xs ++ y ∷ ys) ≡ length xs + suc (length ys) = length-append xs (y ∷ ys) in omega (arith, some)
+
+but_last : (xs : List Item) (y : Item) (ys : List Item) → take (length (xs ++ y ∷ ys) - 1) (xs ++ y ∷ ys) ≡ xs ++ take (length (y ∷ ys) - 1) (y ∷ ys)
+but_last [] y ys = refl
+but_last (x ∷ xs) y ys = ap (λ (n : ℕ). take n (x ∷ (xs ++ y ∷ ys))) (longer x xs y ys) ∙ ap (λ (l : List Item). x ∷ l) (but_last xs y ys)
+
+-- none before the last of these
+pub before_last : (xs ys : List Item) → NoQuit xs → NoQuit (take (length ys - 1) ys) → NoQuit (take (length (xs ++ ys) - 1) (xs ++ ys))
+before_last xs [] a b = rw append-nil (front_quits (length xs - 1) xs a)
+before_last xs (y ∷ ys) a b = rw (but_last xs y ys) (none_quit xs (take (length (y ∷ ys) - 1) (y ∷ ys)) a b)
+
+one_before_last : (item : Item) → NoQuit (take (length (item ∷ []) - 1) (item ∷ []))
+one_before_last item = none_quits
+
+-- ## Replies
 
 -- the replies to items, and then to others
-pub joined : (xs ys : List Item) (old mid new : World) (o p : List ℕ) → Replies xs old o mid → Replies ys mid p new → Replies (xs ++ ys) old (o ++ p) new
-joined [] ys old mid new o p r s = rw (r.0, ← r.1) s
-joined (x ∷ xs) ys old mid new o p r s = (r.0, r.1, r.2 ++ p, r.3, rw (r.4, append_assoc) refl, joined xs ys r.0 mid new r.2 p r.5 s)
+pub joined : (xs ys : List Item) (old mid new : World) (f g : List (List ℕ)) (o p : List ℕ) → Replies xs old f o mid → Replies ys mid g p new → Replies (xs ++ ys) old (f ++ g) (o ++ p) new
+joined [] ys old mid new f g o p r s = rw (r.0, r.1, ← r.2) s
+joined (x ∷ xs) ys old mid new f g o p r s =
+    (r.0, r.1, r.2 ++ g, r.3, r.4 ++ p, r.5, rw (r.6, append_assoc) refl, rw (r.7, append_assoc) refl, joined xs ys r.0 mid new r.2 g r.4 p r.8 s)
 
-one_reply : (item : Item) (old new : World) (reply : List ℕ) → ItemStep old item new reply → Replies (item ∷ []) old reply new
-one_reply item old new reply s = (new, reply, [], s, sym (append-nil reply), (refl, refl))
+one_reply : (item : Item) (old new : World) (failed : List (List ℕ)) (reply : List ℕ) → ItemStep old item failed new reply → Replies (item ∷ []) old failed reply new
+one_reply item old new failed reply s = (new, failed, [], reply, [], s, sym (append-nil failed), sym (append-nil reply), (refl, refl, refl))
+
+-- ## Progress
 
 -- nothing was answered yet
-pub none_yet : {ended : Bool} → (bytes before : List ℕ) (world : World) (at : Option (List ℕ)) → at ≡ Some before → Progress ended bytes bytes world world before at
-none_yet bytes before world at e = record { items = []; output = []; taken = Nothing bytes; replies = (refl, refl); written = rw (append-nil before) e }
+pub none_yet : {ended : Bool} → (bytes : List ℕ) (held : Held) (start : Outside) (at : Seen) → IsTold at start → Progress ended bytes bytes held held start at
+none_yet bytes held start at t = record {
+  items = [];
+  failed = [];
+  output = [];
+  stored = start.files;
+  taken = Nothing bytes;
+  no_quit = none_quits;
+  replies = (refl, refl, refl);
+  leaves = nothing_yet start at t;
+}
 
 -- one item more
-pub one_more : {ended : Bool} → (a b c : List ℕ) (item : Item) (old mid new : World) (before : List ℕ) (at after : Option (List ℕ)) → Progress ended a b old mid before at →
-    Begins ended b (item ∷ []) c → Told at (λ all. Replied mid item new all after) → Progress ended a c old new before after
-one_more a b c item old mid new before at after p t told =
-    let r = told (before ++ p.output) p.written in
+pub one_more : {ended : Bool} → (a b c : List ℕ) (item : Item) (old mid new : Held) (start : Outside) (at end : Seen) → Progress ended a b old mid start at →
+    Begins ended b (item ∷ []) c → item ≢ Given Quit → Tells at (λ here. Replied mid item new here end) → Progress ended a c old new start end
+one_more a b c item old mid new start at end p t ne told =
+    let r = told (moved start p.output p.stored p.failed) (told_after start p.output p.stored p.failed at p.leaves) in
     record {
       items = p.items ++ item ∷ [];
+      failed = p.failed ++ r.failed;
       output = p.output ++ r.reply;
+      stored = r.stored;
       taken = then_begins a b c p.items (item ∷ []) p.taken t;
-      replies = joined p.items (item ∷ []) old mid new p.output r.reply p.replies (one_reply item mid new r.reply r.step);
-      written = rw (r.written, append_assoc) refl;
+      no_quit = none_quit p.items (item ∷ []) p.no_quit (one_goes_on item ne);
+      replies = joined p.items (item ∷ []) (within old start) (record { held = mid; files = p.stored }) (record { held = new; files = r.stored }) p.failed r.failed p.output r.reply p.replies
+          (one_reply item (record { held = mid; files = p.stored }) (record { held = new; files = r.stored }) r.failed r.reply r.step);
+      leaves = later start p.output p.stored p.failed r.reply r.stored r.failed end r.leaves;
     }
 
+-- and then a `quit`
+pub quit_more : {ended : Bool} → (a b c : List ℕ) (old mid new : Held) (start : Outside) (at end : Seen) → Progress ended a b old mid start at →
+    Begins ended b (Given Quit ∷ []) c → Tells at (λ here. Replied mid (Given Quit) new here end) → ProgressToQuit ended a old start end
+quit_more a b c old mid new start at end p t told =
+    let r = told (moved start p.output p.stored p.failed) (told_after start p.output p.stored p.failed at p.leaves) in
+    record {
+      items = p.items;
+      others = c;
+      failed = p.failed ++ r.failed;
+      output = p.output ++ r.reply;
+      last = record { held = new; files = r.stored };
+      taken = then_begins a b c p.items (Given Quit ∷ []) p.taken t;
+      no_quit = p.no_quit;
+      replies = joined p.items (Given Quit ∷ []) (within old start) (record { held = mid; files = p.stored }) (record { held = new; files = r.stored }) p.failed r.failed p.output r.reply p.replies
+          (one_reply (Given Quit) (record { held = mid; files = p.stored }) (record { held = new; files = r.stored }) r.failed r.reply r.step);
+      leaves = later start p.output p.stored p.failed r.reply r.stored r.failed end r.leaves;
+    }
+
+pub quit_at : {ended : Bool} → (a b c : List ℕ) (item : Item) (old mid new : Held) (start : Outside) (at end : Seen) → Progress ended a b old mid start at →
+    Begins ended b (item ∷ []) c → item ≡ Given Quit → Tells at (λ here. Replied mid item new here end) → ProgressToQuit ended a old start end
+quit_at {ended} a b c item old mid new start at end p t e told =
+    quit_more a b c old mid new start at end p (subst (λ (i : Item). Begins ended b (i ∷ []) c) e t) (subst (λ (i : Item). Tells at (λ here. Replied mid i new here end)) e told)
+
 -- lines that stand for nothing more
-pub and_rest : {ended : Bool} → (a b c : List ℕ) (old mid : World) (before : List ℕ) (at : Option (List ℕ)) → Progress ended a b old mid before at → Begins ended b [] c →
-    Progress ended a c old mid before at
-and_rest a b c old mid before at p t = record {
+pub and_rest : {ended : Bool} → (a b c : List ℕ) (old mid : Held) (start : Outside) (at : Seen) → Progress ended a b old mid start at → Begins ended b [] c → Progress ended a c old mid start at
+and_rest a b c old mid start at p t = record {
   items = p.items;
+  failed = p.failed;
   output = p.output;
+  stored = p.stored;
   taken = rw (← append-nil p.items) (then_begins a b c p.items [] p.taken t);
+  no_quit = p.no_quit;
   replies = p.replies;
-  written = p.written;
+  leaves = p.leaves;
 }
 
 -- one item more, whose reply was written in part
-pub one_in_part : {ended : Bool} → (a b c : List ℕ) (item : Item) (old mid : World) (before : List ℕ) (at after : Option (List ℕ)) → Progress ended a b old mid before at →
-    Begins ended b (item ∷ []) c → Told at (λ all. RepliedInPart mid item all after) → ProgressInPart ended a old before after
-one_in_part a b c item old mid before at after p t told =
-    let r = told (before ++ p.output) p.written in
+pub one_in_part : {ended : Bool} → (a b c : List ℕ) (item : Item) (old mid : Held) (start : Outside) (at end : Seen) → Progress ended a b old mid start at →
+    Begins ended b (item ∷ []) c → Tells at (λ here. RepliedInPart mid item here end) → ProgressInPart ended a old start end
+one_in_part a b c item old mid start at end p t told =
+    let r = told (moved start p.output p.stored p.failed) (told_after start p.output p.stored p.failed at p.leaves) in
     record {
       items = p.items ++ item ∷ [];
       others = c;
+      failed = p.failed ++ r.failed;
       output = p.output ++ r.front;
       unwritten = r.unwritten;
-      new = r.new;
+      last = r.new;
       taken = then_begins a b c p.items (item ∷ []) p.taken t;
-      replies = rw append_assoc (joined p.items (item ∷ []) old mid r.new p.output (r.front ++ r.unwritten) p.replies (one_reply item mid r.new (r.front ++ r.unwritten) r.step));
-      written = rw (r.written, append_assoc) refl;
+      no_quit = before_last p.items (item ∷ []) p.no_quit (one_before_last item);
+      replies = rw append_assoc (joined p.items (item ∷ []) (within old start) (record { held = mid; files = p.stored }) r.new p.failed r.failed p.output (r.front ++ r.unwritten) p.replies
+          (one_reply item (record { held = mid; files = p.stored }) r.new r.failed (r.front ++ r.unwritten) r.step));
+      leaves = later start p.output p.stored p.failed r.front r.new.files r.failed end r.leaves;
     }
 
 -- nothing more was written
-pub none_in_part : {ended : Bool} → (a b : List ℕ) (old mid : World) (before : List ℕ) (at after : Option (List ℕ)) → Progress ended a b old mid before at → Told at (λ all. after ≡ Some all) →
-    ProgressInPart ended a old before after
-none_in_part a b old mid before at after p told = record {
+pub none_in_part : {ended : Bool} → (a b : List ℕ) (old mid : Held) (start : Outside) (at end : Seen) → Progress ended a b old mid start at →
+    Tells at (λ here. Leaves here [] here.files [] end) → ProgressInPart ended a old start end
+none_in_part a b old mid start at end p told = record {
   items = p.items;
   others = b;
+  failed = p.failed;
   output = p.output;
   unwritten = [];
-  new = mid;
+  last = record { held = mid; files = p.stored };
   taken = p.taken;
+  no_quit = front_quits (length p.items - 1) p.items p.no_quit;
   replies = rw append-nil p.replies;
-  written = told (before ++ p.output) p.written;
+  leaves = rw (append-nil p.output, append-nil p.failed) at
+      (later start p.output p.stored p.failed [] p.stored [] end (told (moved start p.output p.stored p.failed) (told_after start p.output p.stored p.failed at p.leaves)));
 }
 
 -- what next gives is its item
@@ -123,12 +229,46 @@ pub item_shortens : {ended : Bool} → (a b : List ℕ) (item : Item) (items : L
 item_shortens {ended} a b item items (Skips bytes line mid more others f s t) = let one = line_shortens ended a line mid f in let two = item_shortens mid b item items t in omega (arith, one, two)
 item_shortens a b item items (Then bytes item' mid more others w t) = let one = whole_shortens a item mid w in let two = never_longer mid b items t in omega (arith, one, two)
 
+-- nothing was read for want of memory
+pub nothing_done : {ended : Bool} → (bytes : List ℕ) (held : Held) (start : Outside) (at : Seen) → IsTold at start → ProgressInPart ended bytes held start at
+nothing_done bytes held start at t = record {
+  items = [];
+  others = bytes;
+  failed = [];
+  output = [];
+  unwritten = [];
+  last = within held start;
+  taken = Nothing bytes;
+  no_quit = none_quits;
+  replies = (refl, refl, refl);
+  leaves = nothing_yet start at t;
+}
+
 -- an error at the item that comes next, or where none came for want of memory
-pub part_at : {ended : Bool} → (next : Option Item) (a b c : List ℕ) (old mid : World) (before : List ℕ) (at after : Option (List ℕ)) → Progress ended a b old mid before at →
-    ((item : Item) → next ≡ Some item → Begins ended b (item ∷ []) c) → Told at (λ all. MatchOption next (after ≡ Some all) (λ item. RepliedInPart mid item all after)) →
-    ProgressInPart ended a old before after
-part_at None a b c old mid before at after p t told = none_in_part a b old mid before at after p told
-part_at (Some item) a b c old mid before at after p t told = one_in_part a b c item old mid before at after p (t item refl) told
+pub part_at : {ended : Bool} → (next : Option Item) (a b c : List ℕ) (old mid : Held) (start : Outside) (at end : Seen) → Progress ended a b old mid start at →
+    ((item : Item) → next ≡ Some item → Begins ended b (item ∷ []) c) → Tells at (λ here. MatchOption next (Leaves here [] here.files [] end) (λ item. RepliedInPart mid item here end)) →
+    ProgressInPart ended a old start end
+part_at None a b c old mid start at end p t told = none_in_part a b old mid start at end p told
+part_at (Some item) a b c old mid start at end p t told = one_in_part a b c item old mid start at end p (t item refl) told
+
+-- a command that comes next is one that some script has
+whole_said : {ended : Bool} → (bytes others : List ℕ) (item : Item) (command : Command) → item ≡ Given command → Whole ended bytes item others → IsSaid command
+whole_said bytes others item command e (Commanded line mid header body given others' f s g b w) = let same : given ≡ command = cc in record { line = line; header = header; body = body; good = g; with_body = rw (← same) w }
+whole_said bytes others item command e (Refused line others' f s n) = cc
+whole_said bytes others item command e (Broken line mid header last f s g few) = cc
+
+begins_said : {ended : Bool} → (bytes others : List ℕ) (items more : List Item) (command : Command) → items ≡ Given command ∷ more → Begins ended bytes items others → IsSaid command
+begins_said bytes others items more command e (Nothing same) = cc
+begins_said {ended} bytes others items more command e (Skips from line mid rest left f s t) = begins_said {ended = ended} mid others items more command e t
+begins_said {ended} bytes others items more command e (Then from item mid rest left w t) = let first : item ≡ Given command = cc in whole_said {ended = ended} bytes mid item command first w
+
+pub gives_said : (ended : Bool) (old new : List ℕ) (next : Next) → Gives ended old next new → IsSaidNext next
+gives_said ended old new (NextCommand command) g = begins_said {ended = ended} old new (Given (command_of command) ∷ []) [] (command_of command) refl g
+gives_said ended old new NextBad g = tt
+gives_said ended old new NextCutShort g = tt
+gives_said ended old new NextMore g = tt
+gives_said ended old new NextEnd g = tt
+gives_said ended old new NextNoMemory g = tt
 
 -- whatever follows, the bytes begin with the same items
 closed_grows : (bytes line others more : List ℕ) → ClosedLine bytes line others → ClosedLine (bytes ++ more) line (others ++ more)

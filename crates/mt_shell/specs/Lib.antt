@@ -1,6 +1,10 @@
 pub mod Refusals
+pub mod Corpora
+pub mod Sights
+pub mod Sessions
+pub mod Fetches
+pub mod Literals
 pub mod Answers
 pub mod Reads
 pub mod Words
 pub mod Ends
-pub mod Corpora

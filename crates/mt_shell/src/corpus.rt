@@ -1,6 +1,7 @@
 //! The texts that are held.
 
-ghost use Rattle.std.specs.Prelude.{◌≡◌, ◌↔◌, ◌∷◌, [], ◌++◌, IsTrue, OnOk, OnErr};
+ghost use Rattle.std.specs.Prelude.{◌≡◌, ◌↔◌, ◌∷◌, [], ◌++◌, length, IsTrue, OnOk, OnErr};
+ghost use Rattle.mt_session_spec.specs.World.{alone, corpus_of, IsFull};
 ghost use Rattle.mt_shell.specs.Corpora.{HasName};
 
 use indexmap::IndexSet;
@@ -8,24 +9,31 @@ use mt_base::{List, NoMemory, Text, Value};
 use std::alloc::Global;
 use std::marker::Model;
 
-/// The texts that are held, in order, seen as their list. It knows their names by a table.
+/// The most texts.
+const TEXTS_LIMIT: usize = 65_536;
+
+/// The most tokens of all texts.
+const TOKENS_LIMIT: usize = 4_194_304;
+
+/// The texts that are held, in order, each a group of its own, seen as the list of the groups. It knows the names by a table, and keeps the number of tokens.
 #[derive(Drop)]
 pub struct Corpus {
     alloc: Global,
     texts: List<Text>,
     names: IndexSet<Value>,
+    tokens: usize,
 }
 
 impl Model for Corpus {
-    ghost use Rattle.std.specs.Prelude.{◌≡◌, List as Items};
-    ghost use Rattle.mt_text_spec.specs.Texts as spec;
-    ghost use Rattle.mt_shell.specs.Corpora.{text_names};
+    ghost use Rattle.std.specs.Prelude.{map, List as Items};
+    ghost use Rattle.mt_session_spec.specs.World.{Group, alone};
+    ghost use Rattle.mt_shell.specs.Corpora.{AreKept};
 
-    ghost Value = { Items spec.Text };
+    ghost Value = { Items Group };
 
-    ghost view = { λ c. c.texts };
+    ghost view = { λ c. map alone c.texts };
 
-    ghost invariant = { λ c. c.names.keys ≡ text_names c.texts };
+    ghost invariant = { λ c. AreKept c.texts c.names.keys c.tokens };
 }
 
 impl Corpus {
@@ -37,27 +45,47 @@ impl Corpus {
             alloc,
             texts: List::new(alloc),
             names: IndexSet::new(alloc),
+            tokens: 0,
         }
     }
 
     /// Whether a text with this name is held.
     pub fn holds(&self, name: &Value) -> bool
-        ensures { IsTrue result ↔ HasName self.now name.now }
+        ensures { IsTrue result ↔ HasName (corpus_of self.now) name.now }
     {
         self.names.contains(name)
     }
 
+    /// Whether no text is held.
+    pub fn is_empty(&self) -> bool
+        ensures { IsTrue result ↔ (corpus_of self.now ≡ []) }
+    {
+        self.texts.is_empty()
+    }
+
+    /// Whether there is no room for a text of so many tokens.
+    pub fn is_full(&self, tokens: usize) -> bool
+        ensures { IsTrue result ↔ IsFull self.now tokens }
+    {
+        self.texts.len() >= TEXTS_LIMIT || tokens > TOKENS_LIMIT - self.tokens
+    }
+
     /// Adds a text behind the others. Without memory nothing changes.
     pub fn add(&mut self, text: Text) -> Result<(), NoMemory>
-        requires { HasName self.old text.name → ⊥ }
-        ensures ok { OnOk result (self.new ≡ self.old ++ text ∷ []) }
+        requires free { HasName (corpus_of self.old) text.name → ⊥ }
+        requires room { IsFull self.old (length text.tokens) → ⊥ }
+        ensures ok { OnOk result (self.new ≡ self.old ++ alone text ∷ []) }
         ensures err { OnErr result (self.new ≡ self.old) }
     {
         let name = text.name().copy(self.alloc)?;
         let count = self.texts.len();
+        let tokens = self.tokens + text.len();
         self.texts.push(text)?;
         match self.names.insert(name) {
-            Ok(_) => Ok(()),
+            Ok(_) => {
+                self.tokens = tokens;
+                Ok(())
+            }
             Err(_) => {
                 self.texts.truncate(count);
                 Err(NoMemory)
@@ -67,7 +95,7 @@ impl Corpus {
 
     /// The texts, in order.
     pub fn texts(&self) -> &[Text]
-        ensures { result.now ≡ self.now }
+        ensures { result.now ≡ corpus_of self.now }
     {
         self.texts.as_slice()
     }

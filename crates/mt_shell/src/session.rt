@@ -1,22 +1,26 @@
-//! The corpus and what each command does to it.
+//! What is held and what each command does to it.
 
-ghost use Rattle.std.specs.Prelude.{◌≡◌, ◌≤◌, ◌↔◌, IsTrue, ◌∷◌, ◌++◌, IfOk, length, count_by};
+ghost use Rattle.std.specs.Prelude.{◌≡◌, ◌∷◌, ◌++◌, ◌↔◌, IfOk, IsTrue};
 ghost use Rattle.std.specs.Fmt.{decimal};
-ghost use Rattle.std.specs.Str.{bytes_eq};
 ghost use Rattle.mt_text_spec.specs.Lines.{closed};
-ghost use Rattle.mt_text_spec.specs.Texts.{value_of};
 ghost use Rattle.mt_script_spec.specs.Commands as spec;
-ghost use Rattle.mt_session_spec.specs.World.{Holds, occurrences, first_world};
+ghost use Rattle.mt_session_spec.specs.World.{Holds, first_held};
+ghost use Rattle.mt_session_spec.specs.Refusals as refusals;
+ghost use Rattle.mt_session_spec.specs.Steps.{IsSaid};
 ghost use Rattle.mt_script.specs.Seen.{ask_of, command_of};
+ghost use Rattle.mt_shell.specs.Sessions.{held_of};
 ghost use Rattle.mt_shell.specs.Refusals.{refusal_of};
-ghost use Rattle.mt_shell.specs.Answers.{Answers, Keeps, Declines};
+ghost use Rattle.mt_shell.specs.Answers.{AnswersAlone, Stepped, KeepsRefused, Declines, IsLastOk, TellsFailure};
+
+mod adding;
+mod counting;
+mod registering;
 
 use super::corpus::Corpus;
-use super::literal::literal;
-use super::refusal::Refusal;
-use mt_base::{List, NoMemory, Text, Token, Value};
+use super::refusal::{Refusal, failure};
+use mt_base::{List, NoMemory, Registry, Value};
+use mt_outside::Shelf;
 use mt_script::{Ask, Command};
-use mt_vertical::{TextError, read_text};
 use std::alloc::Global;
 use std::marker::Model;
 
@@ -25,50 +29,66 @@ use std::marker::Model;
 pub enum Reply {
     /// These bytes, whole lines.
     Lines(List<u8>),
+    /// These bytes, whole lines, and the run ends with them: the reply to `quit`.
+    Last(List<u8>),
     /// Memory was wanted, and nothing changed.
     NoMemory,
 }
 
-/// The texts that the accepted commands have left.
+/// The registry and the texts that the accepted commands have left.
 #[derive(Drop)]
 pub struct Session {
     alloc: Global,
+    registry: Registry,
+    accepted: bool,
     corpus: Corpus,
 }
 
 impl Model for Session {
-    ghost use Rattle.mt_session_spec.specs.World.{World};
+    ghost use Rattle.mt_text_spec.specs.Registries.{ValidRegistry};
+    ghost use Rattle.mt_shell.specs.Sessions.{Standing};
 
-    ghost Value = { World };
+    ghost Value = { Standing };
 
-    ghost view = { λ s. record { corpus = s.corpus } };
+    ghost view = { λ s. record { registry = s.registry; accepted = s.accepted; groups = s.corpus } };
+
+    ghost invariant = { λ s. ValidRegistry s.registry };
 }
 
 impl Session {
-    /// No texts.
-    pub fn new(alloc: Global) -> Self
-        ensures { result ≡ first_world }
+    /// The standard registry, and no texts.
+    pub fn new(alloc: Global) -> Result<Self, NoMemory>
+        ensures { IfOk result (λ session. held_of session ≡ first_held) }
     {
-        Session {
+        Ok(Session {
             alloc,
+            registry: Registry::standard(alloc)?,
+            accepted: false,
             corpus: Corpus::new(alloc),
-        }
+        })
     }
 
-    /// Does what the command says, and answers it. A refused command changes nothing.
-    pub fn step(&mut self, command: Command) -> Reply
-        ensures { Answers self.old (command_of command) result self.new }
+    /// Does what the command says, and answers it.
+    pub fn step<F: Shelf>(&mut self, command: Command, shelf: &mut F) -> Reply
+        requires { IsSaid (command_of command) }
+        // The reply and the change are those that the command means, for the files that the shelf tells, and for some files where it tells none.
+        ensures means { Stepped self.old (command_of command) result self.new (F.files shelf.old) (F.files shelf.new) (F.failed shelf.old) (F.failed shelf.new) }
+        // A refused command changes nothing.
+        ensures refused { KeepsRefused self.old result self.new }
     {
         match command {
-            Command::Text { name, body } => self.add_text(&name, &body),
+            Command::Registry { file } => self.set_registry(&file, shelf),
+            Command::Text { name, body } => self.add_text(&name, body.as_slice()),
+            Command::Add { name, file } => self.add_file(&name, &file, shelf),
             Command::Ask(ask) => self.answer(&ask),
+            Command::Quit => quit(self.alloc),
             _ => refused(self.alloc, &Refusal::BadCommand),
         }
     }
 
     /// Answers a question. Those that are not built yet are refused.
     fn answer(&self, ask: &Ask) -> Reply
-        ensures { Answers self.now (spec.Asks (ask_of ask.now)) result self.now }
+        ensures { AnswersAlone self.now (spec.Asks (ask_of ask.now)) result self.now }
     {
         match ask {
             Ask::Count { cql } => self.count(cql),
@@ -76,63 +96,21 @@ impl Session {
         }
     }
 
-    /// `text`: holds the text that the body is, unless its name is taken.
-    fn add_text(&mut self, name: &Value, body: &List<u8>) -> Reply
-        ensures { Answers self.old (spec.Text name.now body.now) result self.new }
-    {
-        if self.holds(name) {
-            return refused(self.alloc, &Refusal::NameTaken(name.as_str()));
-        }
-        match read_text(self.alloc, name.as_str(), body.as_slice()) {
-            Ok(text) => self.keep(text),
-            Err(TextError::NotBuilt(line)) => refused(self.alloc, &Refusal::NotBuilt(line)),
-            Err(TextError::NoMemory) => Reply::NoMemory,
-        }
-    }
-
-    /// Keeps a text behind the others. The reply is made first.
-    fn keep(&mut self, text: Text) -> Reply
-        requires { Holds self.old text.name → ⊥ }
-        ensures { Keeps self.old text result self.new }
-    {
-        let Ok(reply) = count_line(self.alloc, "ok", text.len() as u128) else {
-            return Reply::NoMemory;
-        };
-        match self.corpus.add(text) {
-            Ok(()) => Reply::Lines(reply),
-            Err(NoMemory) => Reply::NoMemory,
-        }
-    }
-
     /// Whether a text with this name is held.
     fn holds(&self, name: &Value) -> bool
-        ensures { IsTrue result ↔ Holds self.now name.now }
+        ensures { IsTrue result ↔ Holds (held_of self.now) name.now }
     {
         self.corpus.holds(name)
     }
+}
 
-    /// `count`: the number of tokens with the query's word.
-    fn count(&self, cql: &Value) -> Reply
-        ensures { Answers self.now (spec.Asks (spec.Count cql.now)) result self.now }
-    {
-        match literal(cql.as_str().as_bytes()) {
-            None => refused(self.alloc, &Refusal::BadCommand),
-            Some(word) => match count_line(self.alloc, "=", self.occurrences(word)) {
-                Ok(reply) => Reply::Lines(reply),
-                Err(NoMemory) => Reply::NoMemory,
-            },
-        }
-    }
-
-    /// The number of tokens with this word over all texts. It fits since a list has fewer than 2^64 items.
-    fn occurrences(&self, word: &[u8]) -> u128
-        ensures { result ≡ occurrences self.now.corpus word.now }
-    {
-        let mut total = 0;
-        for text in self.corpus.texts() {
-            total += occurrences_in(text.tokens().as_slice(), word) as u128;
-        }
-        total
+/// The reply to `quit`.
+fn quit(alloc: Global) -> Reply
+    ensures { IsLastOk result }
+{
+    match ok_line(alloc) {
+        Ok(line) => Reply::Last(line),
+        Err(NoMemory) => Reply::NoMemory,
     }
 }
 
@@ -146,27 +124,26 @@ fn refused(alloc: Global, refusal: &Refusal<'_>) -> Reply
     }
 }
 
+/// The reply where a call of the shelf at this file failed.
+fn failed(alloc: Global, file: &Value) -> Reply
+    ensures { TellsFailure file.now result }
+{
+    match failure(alloc, file.as_str()) {
+        Ok(line) => Reply::Lines(line),
+        Err(NoMemory) => Reply::NoMemory,
+    }
+}
+
+/// The reply to an accepted command that has nothing else to say.
+fn ok_line(alloc: Global) -> Result<List<u8>, NoMemory>
+    ensures { IfOk result (λ line. line ≡ refusals.ok_line) }
+{
+    Ok(List::from_vec(String::from_str(alloc, "ok\n")?.into_bytes()))
+}
+
 /// A line of a word and a number.
 fn count_line(alloc: Global, word: &str, count: u128) -> Result<List<u8>, NoMemory>
     ensures { IfOk result (λ line. line ≡ closed (word.now ++ 32 ∷ decimal count)) }
 {
     Ok(List::from_vec(format!(in alloc; "{word} {count}\n")?.into_bytes()))
-}
-
-/// The number of these tokens that have this word.
-fn occurrences_in(tokens: &[Token], word: &[u8]) -> usize
-    ensures count { result ≡ count_by (λ token. bytes_eq (value_of token 0) word.now) tokens.now }
-    ensures bound { result ≤ length tokens.now }
-{
-    tokens.iter().filter(|token| word_of(token) == word).count()
-}
-
-/// The word of a token.
-fn word_of(token: &Token) -> &[u8]
-    ensures { result.now ≡ value_of token.now 0 }
-{
-    match token.values().as_slice().first() {
-        None => b"",
-        Some(value) => value.as_str().as_bytes(),
-    }
 }

@@ -1,19 +1,32 @@
 //! Answering the commands of a script as they come.
 
-ghost use Rattle.std.specs.Prelude.{◌≡◌, ◌≤◌, ◌↔◌, ◌++◌, [], Some, true, false, IsTrue, OnOk, OnErr, IsErrOf, MatchOption};
+ghost use Rattle.std.specs.Prelude.{◌≡◌, ◌≤◌, ◌↔◌, ◌++◌, [], Ok, Some, true, false, IsTrue, IfOk, OnErr, IsErrOf, MatchOption};
 ghost use Rattle.mt_outside.specs.Told.{Told};
 ghost use Rattle.mt_outside.specs.Faults.{Rose};
 ghost use Rattle.mt_script_spec.specs.Script.{Item, Given, IsRest};
-ghost use Rattle.mt_session_spec.specs.World.{first_world};
+ghost use Rattle.mt_session_spec.specs.World.{first_held};
+ghost use Rattle.mt_session_spec.specs.Steps.{IsSaid};
+ghost use Rattle.mt_session_spec.specs.Runs.{Leaves};
 ghost use Rattle.mt_script.specs.Seen.{command_of};
-ghost use Rattle.mt_shell.specs.Reads.{Replied, RepliedInPart, Progress, ProgressInPart, item_of, IsLast};
+ghost use Rattle.mt_shell.specs.Sessions.{held_of};
+ghost use Rattle.mt_shell.specs.Reads.{seen, Tells, Replied, RepliedInPart, Progress, ProgressToQuit, ProgressInPart, item_of, IsLast, IsSaidNext, Flows, WroteFront};
 
 use super::refusal::{BAD_COMMAND, CUT_SHORT, NO_MEMORY};
 use super::session::{Reply, Session};
 use super::writes::write_all;
-use mt_outside::{Sink, SinkError};
+use mt_base::NoMemory;
+use mt_outside::{Shelf, Sink, SinkError};
 use mt_script::{Command, Next, ScriptReader};
 use std::alloc::Global;
+
+/// Whether the run goes on.
+#[derive(Clone, Copy, Debug, PartialEq, Eq, Drop)]
+pub enum Flow {
+    /// It does.
+    On,
+    /// It is over with `quit`.
+    Over,
+}
 
 /// A script that is read and the session that answers it.
 #[derive(Drop)]
@@ -25,56 +38,62 @@ pub struct Talk {
 
 impl Talk {
     /// Nothing was read yet, and no text is held.
-    pub fn new(alloc: Global) -> Self
-        ensures reader { result.reader ≡ record { bytes = []; ended = false } }
-        ensures session { result.session ≡ first_world }
+    pub fn new(alloc: Global) -> Result<Self, NoMemory>
+        ensures reader { IfOk result (λ talk. talk.reader ≡ record { bytes = []; ended = false }) }
+        ensures session { IfOk result (λ talk. held_of talk.session ≡ first_held) }
     {
-        Talk {
+        Ok(Talk {
             alloc,
             reader: ScriptReader::new(alloc),
-            session: Session::new(alloc),
-        }
+            session: Session::new(alloc)?,
+        })
     }
 
     /// Takes a piece of the script, and answers the items that are whole.
-    pub fn take<K: Sink>(&mut self, piece: &[u8], sink: &mut K) -> Result<(), SinkError>
+    pub fn take<K: Sink, F: Shelf>(&mut self, piece: &[u8], sink: &mut K, shelf: &mut F) -> Result<Flow, SinkError>
         requires { self.old.reader.ended ≡ false }
-        ensures ok { OnOk result (Told (K.held sink.old) (λ before.
-            Progress false (self.old.reader.bytes ++ piece.now) self.new.reader.bytes self.old.session self.new.session before (K.held sink.new))) }
-        ensures part { OnErr result (Told (K.held sink.old) (λ before.
-            ProgressInPart false (self.old.reader.bytes ++ piece.now) self.old.session before (K.held sink.new))) }
-        ensures rest { OnOk result (IsRest false self.new.reader.bytes) }
+        ensures on { result ≡ Ok Flow.On → Tells (seen (K.held sink.old) (F.files shelf.old) (F.failed shelf.old)) (λ start.
+            Progress false (self.old.reader.bytes ++ piece.now) self.new.reader.bytes (held_of self.old.session) (held_of self.new.session) start (seen (K.held sink.new) (F.files shelf.new) (F.failed shelf.new))) }
+        ensures over { result ≡ Ok Flow.Over → Tells (seen (K.held sink.old) (F.files shelf.old) (F.failed shelf.old)) (λ start.
+            ProgressToQuit false (self.old.reader.bytes ++ piece.now) (held_of self.old.session) start (seen (K.held sink.new) (F.files shelf.new) (F.failed shelf.new))) }
+        ensures part { OnErr result (Tells (seen (K.held sink.old) (F.files shelf.old) (F.failed shelf.old)) (λ start.
+            ProgressInPart false (self.old.reader.bytes ++ piece.now) (held_of self.old.session) start (seen (K.held sink.new) (F.files shelf.new) (F.failed shelf.new)))) }
+        ensures rest { result ≡ Ok Flow.On → IsRest false self.new.reader.bytes }
         ensures ended { self.new.reader.ended ≡ false }
         ensures rises { K.faults sink.old ≤ K.faults sink.new }
         ensures failed { IsErrOf result SinkError.Failed → Rose (K.faults sink.old) (K.faults sink.new) }
     {
         match self.reader.feed(piece) {
-            Ok(()) => self.answer(sink),
+            Ok(()) => self.answer(sink, shelf),
             Err(_) => Err(SinkError::NoMemory),
         }
     }
 
     /// Answers what is left where the script has ended.
-    pub fn finish<K: Sink>(&mut self, sink: &mut K) -> Result<(), SinkError>
-        ensures ok { OnOk result (Told (K.held sink.old) (λ before.
-            Progress true self.old.reader.bytes self.new.reader.bytes self.old.session self.new.session before (K.held sink.new))) }
-        ensures part { OnErr result (Told (K.held sink.old) (λ before.
-            ProgressInPart true self.old.reader.bytes self.old.session before (K.held sink.new))) }
-        ensures rest { OnOk result (IsRest true self.new.reader.bytes) }
+    pub fn finish<K: Sink, F: Shelf>(&mut self, sink: &mut K, shelf: &mut F) -> Result<Flow, SinkError>
+        ensures on { result ≡ Ok Flow.On → Tells (seen (K.held sink.old) (F.files shelf.old) (F.failed shelf.old)) (λ start.
+            Progress true self.old.reader.bytes self.new.reader.bytes (held_of self.old.session) (held_of self.new.session) start (seen (K.held sink.new) (F.files shelf.new) (F.failed shelf.new))) }
+        ensures over { result ≡ Ok Flow.Over → Tells (seen (K.held sink.old) (F.files shelf.old) (F.failed shelf.old)) (λ start.
+            ProgressToQuit true self.old.reader.bytes (held_of self.old.session) start (seen (K.held sink.new) (F.files shelf.new) (F.failed shelf.new))) }
+        ensures part { OnErr result (Tells (seen (K.held sink.old) (F.files shelf.old) (F.failed shelf.old)) (λ start.
+            ProgressInPart true self.old.reader.bytes (held_of self.old.session) start (seen (K.held sink.new) (F.files shelf.new) (F.failed shelf.new)))) }
+        ensures rest { result ≡ Ok Flow.On → IsRest true self.new.reader.bytes }
         ensures rises { K.faults sink.old ≤ K.faults sink.new }
         ensures failed { IsErrOf result SinkError.Failed → Rose (K.faults sink.old) (K.faults sink.new) }
     {
         self.reader.end();
-        self.answer(sink)
+        self.answer(sink, shelf)
     }
 
-    /// Answers each whole item that waits.
-    fn answer<K: Sink>(&mut self, sink: &mut K) -> Result<(), SinkError>
-        ensures ok { OnOk result (Told (K.held sink.old) (λ before.
-            Progress self.old.reader.ended self.old.reader.bytes self.new.reader.bytes self.old.session self.new.session before (K.held sink.new))) }
-        ensures part { OnErr result (Told (K.held sink.old) (λ before.
-            ProgressInPart self.old.reader.ended self.old.reader.bytes self.old.session before (K.held sink.new))) }
-        ensures rest { OnOk result (IsRest self.old.reader.ended self.new.reader.bytes) }
+    /// Answers each whole item that waits, up to a `quit`.
+    fn answer<K: Sink, F: Shelf>(&mut self, sink: &mut K, shelf: &mut F) -> Result<Flow, SinkError>
+        ensures on { result ≡ Ok Flow.On → Tells (seen (K.held sink.old) (F.files shelf.old) (F.failed shelf.old)) (λ start.
+            Progress self.old.reader.ended self.old.reader.bytes self.new.reader.bytes (held_of self.old.session) (held_of self.new.session) start (seen (K.held sink.new) (F.files shelf.new) (F.failed shelf.new))) }
+        ensures over { result ≡ Ok Flow.Over → Tells (seen (K.held sink.old) (F.files shelf.old) (F.failed shelf.old)) (λ start.
+            ProgressToQuit self.old.reader.ended self.old.reader.bytes (held_of self.old.session) start (seen (K.held sink.new) (F.files shelf.new) (F.failed shelf.new))) }
+        ensures part { OnErr result (Tells (seen (K.held sink.old) (F.files shelf.old) (F.failed shelf.old)) (λ start.
+            ProgressInPart self.old.reader.ended self.old.reader.bytes (held_of self.old.session) start (seen (K.held sink.new) (F.files shelf.new) (F.failed shelf.new)))) }
+        ensures rest { result ≡ Ok Flow.On → IsRest self.old.reader.ended self.new.reader.bytes }
         ensures ended { self.new.reader.ended ≡ self.old.reader.ended }
         ensures rises { K.faults sink.old ≤ K.faults sink.new }
         ensures failed { IsErrOf result SinkError.Failed → Rose (K.faults sink.old) (K.faults sink.new) }
@@ -82,9 +101,12 @@ impl Talk {
         loop {
             let next = self.reader.next_command(self.alloc);
             if is_last(&next) {
-                return Ok(());
+                return Ok(Flow::On);
             }
-            answer_item(&mut self.session, next, sink)?;
+            match answer_item(&mut self.session, next, sink, shelf)? {
+                Flow::On => {}
+                Flow::Over => return Ok(Flow::Over),
+            }
         }
     }
 }
@@ -97,39 +119,71 @@ fn is_last(next: &Next) -> bool
 }
 
 /// Answers what comes next.
-fn answer_item<K: Sink>(session: &mut Session, next: Next, sink: &mut K) -> Result<(), SinkError>
-    requires { IsLast next → ⊥ }
-    ensures ok { OnOk result ((item : Item) × (item_of next ≡ Some item) × Told (K.held sink.old) (λ before.
-        Replied session.old item session.new before (K.held sink.new))) }
-    ensures part { OnErr result (Told (K.held sink.old) (λ before.
-        MatchOption (item_of next) (K.held sink.new ≡ Some before) (λ item. RepliedInPart session.old item before (K.held sink.new)))) }
+fn answer_item<K: Sink, F: Shelf>(
+    session: &mut Session,
+    next: Next,
+    sink: &mut K,
+    shelf: &mut F,
+) -> Result<Flow, SinkError>
+    requires one { IsLast next → ⊥ }
+    requires said { IsSaidNext next }
+    ensures ok { IfOk result (λ flow. (item : Item) × (item_of next ≡ Some item) × Flows flow item × Tells (seen (K.held sink.old) (F.files shelf.old) (F.failed shelf.old)) (λ start.
+        Replied (held_of session.old) item (held_of session.new) start (seen (K.held sink.new) (F.files shelf.new) (F.failed shelf.new)))) }
+    ensures part { OnErr result (Tells (seen (K.held sink.old) (F.files shelf.old) (F.failed shelf.old)) (λ start.
+        MatchOption (item_of next) (Leaves start [] start.files [] (seen (K.held sink.new) (F.files shelf.new) (F.failed shelf.new)))
+        (λ item. RepliedInPart (held_of session.old) item start (seen (K.held sink.new) (F.files shelf.new) (F.failed shelf.new))))) }
     ensures rises { K.faults sink.old ≤ K.faults sink.new }
     ensures failed { IsErrOf result SinkError.Failed → Rose (K.faults sink.old) (K.faults sink.new) }
 {
     match next {
-        Next::Command(command) => answer_command(session, command, sink),
-        Next::Bad => write_all(sink, BAD_COMMAND.as_bytes()),
-        Next::CutShort => write_all(sink, CUT_SHORT.as_bytes()),
+        Next::Command(command) => answer_command(session, command, sink, shelf),
+        Next::Bad => write_then(sink, BAD_COMMAND.as_bytes(), Flow::On),
+        Next::CutShort => write_then(sink, CUT_SHORT.as_bytes(), Flow::On),
         Next::NoMemory => Err(SinkError::NoMemory),
         Next::More | Next::End => unreachable!(),
     }
 }
 
 /// Answers a command. Its reply is whole before its first byte is written.
-fn answer_command<K: Sink>(
+fn answer_command<K: Sink, F: Shelf>(
     session: &mut Session,
     command: Command,
     sink: &mut K,
-) -> Result<(), SinkError>
-    ensures ok { OnOk result (Told (K.held sink.old) (λ before.
-        Replied session.old (Given (command_of command)) session.new before (K.held sink.new))) }
-    ensures part { OnErr result (Told (K.held sink.old) (λ before.
-        RepliedInPart session.old (Given (command_of command)) before (K.held sink.new))) }
+    shelf: &mut F,
+) -> Result<Flow, SinkError>
+    requires { IsSaid (command_of command) }
+    ensures ok { IfOk result (λ flow. Flows flow (Given (command_of command)) × Tells (seen (K.held sink.old) (F.files shelf.old) (F.failed shelf.old)) (λ start.
+        Replied (held_of session.old) (Given (command_of command)) (held_of session.new) start (seen (K.held sink.new) (F.files shelf.new) (F.failed shelf.new)))) }
+    ensures part { OnErr result (Tells (seen (K.held sink.old) (F.files shelf.old) (F.failed shelf.old)) (λ start.
+        RepliedInPart (held_of session.old) (Given (command_of command)) start (seen (K.held sink.new) (F.files shelf.new) (F.failed shelf.new)))) }
     ensures rises { K.faults sink.old ≤ K.faults sink.new }
     ensures failed { IsErrOf result SinkError.Failed → Rose (K.faults sink.old) (K.faults sink.new) }
 {
-    match session.step(command) {
-        Reply::Lines(lines) => write_all(sink, lines.as_slice()),
-        Reply::NoMemory => write_all(sink, NO_MEMORY.as_bytes()),
+    let flow = flow_behind(&command);
+    match session.step(command, shelf) {
+        Reply::Lines(lines) => write_then(sink, lines.as_slice(), flow),
+        Reply::Last(lines) => write_then(sink, lines.as_slice(), flow),
+        Reply::NoMemory => write_then(sink, NO_MEMORY.as_bytes(), flow),
     }
+}
+
+/// Whether the run goes on behind a command, whatever is answered to it.
+fn flow_behind(command: &Command) -> Flow
+    ensures { Flows result (Given (command_of command.now)) }
+{
+    match command {
+        Command::Quit => Flow::Over,
+        _ => Flow::On,
+    }
+}
+
+/// Writes a reply, behind which the run goes on or not.
+fn write_then<K: Sink>(sink: &mut K, piece: &[u8], flow: Flow) -> Result<Flow, SinkError>
+    ensures ok { IfOk result (λ f. (f ≡ flow) × Told (K.held sink.old) (λ all. K.held sink.new ≡ Some (all ++ piece.now))) }
+    ensures part { OnErr result (Told (K.held sink.old) (λ all. WroteFront piece.now all (K.held sink.new))) }
+    ensures rises { K.faults sink.old ≤ K.faults sink.new }
+    ensures failed { IsErrOf result SinkError.Failed → Rose (K.faults sink.old) (K.faults sink.new) }
+{
+    write_all(sink, piece)?;
+    Ok(flow)
 }

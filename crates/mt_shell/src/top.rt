@@ -4,18 +4,20 @@ ghost use Rattle.std.specs.Prelude.{◌≡◌, ◌≢◌, ◌≤◌, ◌<◌, �
 ghost use Rattle.mt_outside.specs.Told.{Told};
 ghost use Rattle.mt_outside.specs.Faults.{Rose};
 ghost use Rattle.mt_session_spec.specs.Runs.{script_limit, EndsWell, EndsWithFault, EndsTooLong, EndsInPart};
-ghost use Rattle.mt_session_spec.specs.World.{first_world};
+ghost use Rattle.mt_session_spec.specs.World.{first_held};
+ghost use Rattle.mt_shell.specs.Sessions.{held_of};
+ghost use Rattle.mt_shell.specs.Reads.{seen, Tells};
 ghost use Rattle.mt_shell.specs.Words.{AreGood};
 ghost use Rattle.mt_shell.specs.Ends.{EndsAs, HasCause, HasLength, FinishesAs, FinishCause};
 
-use super::talk::Talk;
-use mt_outside::{Failed, Sink, SinkError, Source};
+use super::talk::{Flow, Talk};
+use mt_outside::{Failed, Shelf, Sink, SinkError, Source};
 use std::alloc::Global;
 
 /// How a run ended.
 #[derive(Clone, Copy, Debug, PartialEq, Eq, Drop)]
 pub enum Status {
-    /// The script was read to its end, and every reply was written.
+    /// The script was read to its end or to a `quit`, and every reply was written.
     Done,
     /// The words of the command line are not good. Nothing was read or written.
     Usage,
@@ -38,35 +40,35 @@ const BLOCK: usize = 65_536;
 /// Answers the script that the source gives, and writes each reply before more is read.
 ///
 /// The words are those of the command line behind the program's name.
-pub fn run<S: Source, K: Sink>(
+pub fn run<S: Source, K: Sink, F: Shelf>(
     alloc: Global,
     words: &[String],
     source: &mut S,
     sink: &mut K,
+    shelf: &mut F,
 ) -> Status
-    // What is written is the replies to what is read.
-    ensures done { result ≡ Status.Done → Told (S.left source.old) (λ input. Told (K.held sink.old) (λ before.
-        EndsWell input (S.left source.new) before (K.held sink.new))) }
+    // What is written is the replies to what is read, and the shelf has the files of the last world.
+    ensures done { result ≡ Status.Done → Told (S.left source.old) (λ input. Tells (seen (K.held sink.old) (F.files shelf.old) (F.failed shelf.old)) (λ start.
+        EndsWell input (S.left source.new) start (seen (K.held sink.new) (F.files shelf.new) (F.failed shelf.new)))) }
 
     // Each other end has its cause, and says what is written then.
     ensures usage { (result ≡ Status.Usage) ↔ (AreGood words.now → ⊥) }
-    ensures untouched { result ≡ Status.Usage → (source.new ≡ source.old) × (sink.new ≡ sink.old) }
+    ensures untouched { result ≡ Status.Usage → (source.new ≡ source.old) × (sink.new ≡ sink.old) × (shelf.new ≡ shelf.old) }
     ensures source_failed { result ≡ Status.SourceFault → Rose (S.faults source.old) (S.faults source.new) }
-    ensures source_fault { result ≡ Status.SourceFault → Told (S.left source.old) (λ input. Told (K.held sink.old) (λ before.
-        EndsWithFault input (S.left source.new) before (K.held sink.new))) }
+    ensures source_fault { result ≡ Status.SourceFault → Told (S.left source.old) (λ input. Tells (seen (K.held sink.old) (F.files shelf.old) (F.failed shelf.old)) (λ start.
+        EndsWithFault input (S.left source.new) start (seen (K.held sink.new) (F.files shelf.new) (F.failed shelf.new)))) }
     ensures sink_failed { result ≡ Status.SinkFault → Rose (K.faults sink.old) (K.faults sink.new) }
-    ensures sink_fault { result ≡ Status.SinkFault → Told (S.left source.old) (λ input. Told (K.held sink.old) (λ before.
-        EndsInPart input (S.left source.new) before (K.held sink.new))) }
+    ensures sink_fault { result ≡ Status.SinkFault → Told (S.left source.old) (λ input. Tells (seen (K.held sink.old) (F.files shelf.old) (F.failed shelf.old)) (λ start.
+        EndsInPart input (S.left source.new) start (seen (K.held sink.new) (F.files shelf.new) (F.failed shelf.new)))) }
     ensures is_long { result ≡ Status.ScriptTooLong → Told (S.left source.old) (λ input. script_limit < length input) }
-    ensures too_long { result ≡ Status.ScriptTooLong → Told (S.left source.old) (λ input. Told (K.held sink.old) (λ before.
-        EndsTooLong input (S.left source.new) before (K.held sink.new))) }
-    ensures no_memory { result ≡ Status.NoMemory → Told (S.left source.old) (λ input. Told (K.held sink.old) (λ before.
-        EndsInPart input (S.left source.new) before (K.held sink.new))) }
+    ensures too_long { result ≡ Status.ScriptTooLong → Told (S.left source.old) (λ input. Tells (seen (K.held sink.old) (F.files shelf.old) (F.failed shelf.old)) (λ start.
+        EndsTooLong input (S.left source.new) start (seen (K.held sink.new) (F.files shelf.new) (F.failed shelf.new)))) }
+    ensures no_memory { result ≡ Status.NoMemory → Told (S.left source.old) (λ input. Tells (seen (K.held sink.old) (F.files shelf.old) (F.failed shelf.old)) (λ start.
+        EndsInPart input (S.left source.new) start (seen (K.held sink.new) (F.files shelf.new) (F.failed shelf.new)))) }
 
     // With good words, no fault and a script that is not too long the run is done, or memory was wanted.
     ensures complete { AreGood words.now → (Rose (S.faults source.old) (S.faults source.new) → ⊥) → (Rose (K.faults sink.old) (K.faults sink.new) → ⊥) →
         Told (S.left source.old) (λ input. length input ≤ script_limit → (result ≡ Status.Done) ⊎ (result ≡ Status.NoMemory)) }
-    ensures short { result ≡ Status.Done → Told (S.left source.old) (λ input. length input ≤ script_limit) }
 {
     if !are_good(words) {
         return Status::Usage;
@@ -74,7 +76,10 @@ pub fn run<S: Source, K: Sink>(
     let Ok(mut block) = vec![in alloc; 0; BLOCK] else {
         return Status::NoMemory;
     };
-    converse(&mut Talk::new(alloc), &mut block, source, sink)
+    let Ok(mut talk) = Talk::new(alloc) else {
+        return Status::NoMemory;
+    };
+    converse(&mut talk, &mut block, source, sink, shelf)
 }
 
 /// Whether the words of the command line are good.
@@ -85,17 +90,18 @@ fn are_good(words: &[String]) -> bool
 }
 
 /// Reads the script and answers it, up to its limit and one byte more.
-fn converse<S: Source, K: Sink>(
+fn converse<S: Source, K: Sink, F: Shelf>(
     talk: &mut Talk,
     block: &mut [u8],
     source: &mut S,
     sink: &mut K,
+    shelf: &mut F,
 ) -> Status
     requires reader { talk.old.reader ≡ record { bytes = []; ended = false } }
-    requires session { talk.old.session ≡ first_world }
+    requires session { held_of talk.old.session ≡ first_held }
     requires block { length block.old ≡ BLOCK }
-    ensures ends { Told (S.left source.old) (λ input. Told (K.held sink.old) (λ before.
-        EndsAs result input (S.left source.new) before (K.held sink.new))) }
+    ensures ends { Told (S.left source.old) (λ input. Tells (seen (K.held sink.old) (F.files shelf.old) (F.failed shelf.old)) (λ start.
+        EndsAs result input (S.left source.new) start (seen (K.held sink.new) (F.files shelf.new) (F.failed shelf.new)))) }
     ensures cause { HasCause result (S.faults source.old) (S.faults source.new) (K.faults sink.old) (K.faults sink.new) }
     ensures size { Told (S.left source.old) (λ input. HasLength result input) }
 {
@@ -106,28 +112,30 @@ fn converse<S: Source, K: Sink>(
             return Status::SourceFault;
         };
         if n == 0 {
-            return finish(talk, sink);
+            return finish(talk, sink, shelf);
         }
-        match talk.take(&block[..n], sink) {
-            Ok(()) => taken += n,
+        match talk.take(&block[..n], sink, shelf) {
+            Ok(Flow::On) => taken += n,
+            Ok(Flow::Over) => return Status::Done,
             Err(error) => return status_of(error),
         }
     }
     match source.read(&mut block[..1]) {
-        Ok(0) => finish(talk, sink),
+        Ok(0) => finish(talk, sink, shelf),
         Ok(_) => Status::ScriptTooLong,
         Err(Failed) => Status::SourceFault,
     }
 }
 
 /// Answers what is left where the script has ended.
-fn finish<K: Sink>(talk: &mut Talk, sink: &mut K) -> Status
-    ensures ends { Told (K.held sink.old) (λ before.
-        FinishesAs result talk.old.reader.bytes talk.old.session talk.new.session before (K.held sink.new)) }
+fn finish<K: Sink, F: Shelf>(talk: &mut Talk, sink: &mut K, shelf: &mut F) -> Status
+    ensures ends { Tells (seen (K.held sink.old) (F.files shelf.old) (F.failed shelf.old)) (λ start.
+        FinishesAs result talk.old.reader.bytes (held_of talk.old.session) (held_of talk.new.session) start (seen (K.held sink.new) (F.files shelf.new) (F.failed shelf.new))) }
     ensures cause { FinishCause result (K.faults sink.old) (K.faults sink.new) }
 {
-    match talk.finish(sink) {
-        Ok(()) => Status::Done,
+    match talk.finish(sink, shelf) {
+        Ok(Flow::On) => Status::Done,
+        Ok(Flow::Over) => Status::Done,
         Err(error) => status_of(error),
     }
 }

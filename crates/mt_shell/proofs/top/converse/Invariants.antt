@@ -2,6 +2,8 @@
 use Rattle.std.proofs.Common.{◌≡◌, ◌≤◌, ◌-◌, length, false}
 use Rattle.mt_outside.specs.Told.{Told}
 use Rattle.mt_script_spec.specs.Script.{IsRest}
+use Rattle.mt_shell.specs.Sessions.{held_of}
+use Rattle.mt_shell.specs.Reads.{seen, Tells}
 use Rattle.mt_shell.specs.Ends.{Took, ReadsOn}
 use Rattle.mt_shell.proofs.top.converse.Given as goal
 
@@ -9,10 +11,12 @@ abbrev pub invariant-loop-taken : goal.invariant-loop-taken
 invariant-loop-taken g l =
     let left = g.S.Source.left in
     let held = g.K.Sink.held in
+    let files = g.F.Shelf.files in
+    let failed = g.F.Shelf.failed in
     record {
       took : Told (left l.fn.source) (λ input. Took input (left l.source) l.taken);
-      reads : Told (left l.fn.source) (λ input. Told (held l.fn.sink) (λ before.
-          ReadsOn input (left l.source) l.taken l.talk.reader.bytes l.talk.session before (held l.sink)));
+      reads : Told (left l.fn.source) (λ input. Tells (seen (held l.fn.sink) (files l.fn.shelf) (failed l.fn.shelf)) (λ start.
+          ReadsOn input (left l.source) l.taken l.talk.reader.bytes (held_of l.talk.session) start (seen (held l.sink) (files l.shelf) (failed l.shelf))));
       ended : l.talk.reader.ended ≡ false;
       rest : IsRest false l.talk.reader.bytes;
       within : l.taken ≤ 268435456;

@@ -1,7 +1,8 @@
-use Rattle.std.proofs.Common.{◌∙◌}
-use Rattle.mt_shell.proofs.Corpora.{one_name_more}
+use Rattle.std.proofs.Common.{◌∙◌, sym, ap, ◌+◌}
+use Rattle.mt_shell.proofs.Corpora.{one_text_more, one_group_more, sum_fits}
 use Rattle.mt_shell.proofs.corpus.Corpus.add.Goals as goal
 
 pub invariant_of-self-in-Ok : goal.invariant_of-self-in-Ok
-invariant_of-self-in-Ok c = one_name_more c.self.inside.texts c.push.new.self c.args.text c.in_ok-name.name c.self.inside.names.keys c.insert.new.self.keys c.self.invariant
-    (rw (← c.self.view_is) at c.requires) (c.in_ok-name.ensures ∙ c.name.ensures) c.in-Ok.ensures.keys c.in_ok-push.ensures.ok
+invariant_of-self-in-Ok c = one_text_more c.self.inside.texts c.push.new.self c.args.text c.args.self.now c.in_ok-name.name c.self.inside.names.keys c.insert.new.self.keys c.self.inside.tokens
+    (c.self.inside.tokens + c.len.result) (sym c.self.view_is) c.self.invariant c.requires.free c.requires.room (c.in_ok-name.ensures ∙ c.name.ensures) c.in-Ok.ensures.keys c.in_ok-push.ensures.ok
+    (ap (λ n. c.self.inside.tokens + n) c.len.ensures)

@@ -1,4 +1,4 @@
-use Rattle.mt_shell.proofs.Meanings.{unbuilt_ask}
+use Rattle.mt_shell.proofs.Unbuilt.{unbuilt_ask}
 use Rattle.mt_shell.proofs.session.Session.answer.Goals as goal
 
 pub returns-in_default : goal.returns-in_default

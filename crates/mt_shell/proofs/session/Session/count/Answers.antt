@@ -1,12 +1,24 @@
-use Rattle.std.proofs.Common.{◌∙◌, ap, codes, ◌++◌, ◌∷◌}
-use Rattle.std.specs.Fmt.{decimal}
-use Rattle.mt_text_spec.specs.Lines.{closed}
-use Rattle.mt_shell.proofs.Meanings.{unread, counted}
+use Rattle.std.proofs.Common.{◌∙◌, ap}
+use Rattle.mt_text_spec.specs.Registries.{Registry}
+use Rattle.mt_shell.specs.Sessions.{Standing}
+use Rattle.mt_shell.proofs.Counting.{unread, unknown, counted, number_within, count_is}
 use Rattle.mt_shell.proofs.session.Session.count.Goals as goal
 
-pub returns-in-None : goal.returns-in-None
-returns-in-None c = unread c.args.self.now c.args.cql.now c.refused.result (rw (c.as_bytes.ensures.value, c.as_str.ensures) at c.in-None.ensures) c.refused.ensures
+pub returns-in_default : goal.returns-in_default
+returns-in_default c = unread c.args.self.now c.args.cql.now c.refused.result (rw (c.as_bytes.ensures.value, c.as_str.ensures) at c.in_default.ensures) c.refused.ensures
+
+pub returns-in_default-find_attr : goal.returns-in_default-find_attr
+returns-in_default-find_attr c =
+    unknown c.args.self.now c.args.cql.now c.in-Some.name.now c.in-Some.value.now c.refused-in_default-find_attr.result (rw (c.as_bytes.ensures.value, c.as_str.ensures) at c.in-Some.ensures)
+    (rw (ap (λ (s : Standing). s.registry) c.self.view_is) at c.in_default-find_attr.ensures.none) c.refused-in_default-find_attr.ensures
+
+pub column_of-column-requires : goal.column_of-column-requires
+column_of-column-requires c = rw (c.as_slice.ensures, c.attrs.ensures) (number_within c.self.inside.registry.attrs c.in-Some-find_attr.number c.in-Some.name.now c.in-Some-find_attr.ensures.found)
 
 pub returns-in-Ok : goal.returns-in-Ok
-returns-in-Ok c = counted c.args.self.now c.args.cql.now c.in-Some.word.now c.in-Ok.reply (rw (c.as_bytes.ensures.value, c.as_str.ensures) at c.in-Some.ensures)
-    (c.in-Ok.ensures ∙ ap (λ n. closed (codes "=" ++ 32 ∷ decimal n)) c.occurrences.ensures)
+returns-in-Ok c =
+    let registry_is = ap (λ (s : Standing). s.registry) c.self.view_is in
+    counted c.args.self.now c.args.cql.now c.in-Some.name.now c.in-Some.value.now c.in-Ok.reply c.in-Some-find_attr.number (rw (c.as_bytes.ensures.value, c.as_str.ensures) at c.in-Some.ensures)
+    (rw registry_is at c.in-Some-find_attr.ensures.found)
+    (count_is c.args.self.now c.as_slice.result.now c.in-Some-find_attr.number c.column_of-column.result c.occurrences.result c.in-Some.value.now c.in-Ok.reply c.in-Ok.ensures c.occurrences.ensures
+    c.column_of-column.ensures (c.as_slice.ensures ∙ c.attrs.ensures ∙ ap (λ (r : Registry). r.attrs) registry_is))

@@ -1,7 +1,10 @@
 use Rattle.mt_shell.proofs.talk.Talk.finish.Goals as goal
 
-pub returns-clause-ok : goal.returns-clause-ok
-returns-clause-ok g c = rw c.end.ensures at c.answer.ensures.ok
+pub returns-clause-on : goal.returns-clause-on
+returns-clause-on g c = rw c.end.ensures at c.answer.ensures.on
+
+pub returns-clause-over : goal.returns-clause-over
+returns-clause-over g c = rw c.end.ensures at c.answer.ensures.over
 
 pub returns-clause-part : goal.returns-clause-part
 returns-clause-part g c = rw c.end.ensures at c.answer.ensures.part

@@ -1,0 +1,22 @@
+-- What a command finds of the file that it names.
+use Rattle.std.specs.Prelude.{ℕ, ◌≡◌, ◌<◌, ◌≤◌, List, length, None, Some}
+use Rattle.mt_shelf_spec.specs.Files.{Files}
+
+-- the most bytes of a file that a command reads whole
+abbrev pub file_limit : ℕ
+file_limit = 67108864
+
+-- there is no such file
+abbrev pub IsAbsent : Files → List ℕ → Type 0
+IsAbsent files name = files name ≡ None
+
+-- the file has more bytes than are read
+pub record IsTooLong (files : Files) (name : List ℕ) : Type 0 where
+  pub bytes : List ℕ
+  pub found : files name ≡ Some bytes
+  pub long : file_limit < length bytes
+
+-- the file has these bytes, and they are few enough
+pub record IsFile (files : Files) (name bytes : List ℕ) : Type 0 where
+  pub found : files name ≡ Some bytes
+  pub short : length bytes ≤ file_limit

@@ -1,0 +1,13 @@
+use Rattle.mt_shell.proofs.Adding.{add_absent, add_too_long, add_failed, add_whole}
+use Rattle.mt_shell.proofs.session.Session.take_file.Goals as goal
+
+pub returns-in-Whole : goal.returns-in-Whole
+returns-in-Whole c = rw c.in-Whole.is (λ files f. add_whole c.args.self.now c.read_text.new.self c.args.name.now c.args.file.now c.in-Whole.bytes c.read_text.result files
+    c.read_text.ensures.valid c.requires.free f (rw c.as_slice.ensures at c.read_text.ensures.reads))
+
+pub returns-in-Absent : goal.returns-in-Absent
+returns-in-Absent c = rw c.in-Absent.is (λ files a. add_absent c.args.self.now c.args.name.now c.args.file.now c.refused.result files c.requires.free a (rw c.as_str.ensures at c.refused.ensures))
+
+pub returns-in-TooLong : goal.returns-in-TooLong
+returns-in-TooLong c = rw c.in-TooLong.is (λ files t. add_too_long c.args.self.now c.args.name.now c.args.file.now c.refused-in-TooLong.result files c.requires.free t
+    (rw c.as_str-in-TooLong.ensures at c.refused-in-TooLong.ensures))

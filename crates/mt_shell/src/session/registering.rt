@@ -1,0 +1,78 @@
+//! `registry`.
+
+ghost use Rattle.std.specs.Prelude.{◌≡◌, ◌↔◌, IsTrue};
+ghost use Rattle.mt_shelf_spec.specs.Files.{Files};
+ghost use Rattle.mt_text_spec.specs.Registries.{ValidRegistry};
+ghost use Rattle.mt_script_spec.specs.Commands as spec;
+ghost use Rattle.mt_session_spec.specs.Registering.{IsLate};
+ghost use Rattle.mt_shell.specs.Sessions.{held_of, with_files};
+ghost use Rattle.mt_shell.specs.Fetches.{Finds, failures};
+ghost use Rattle.mt_shell.specs.Answers.{Answers, Stepped, SetsTo, ReadsRegistry};
+
+use super::super::corpus::Corpus;
+use super::super::fetch::{Fetched, fetch};
+use super::super::reading::{NoRegistry, registry_of};
+use super::super::refusal::Refusal;
+use super::{Reply, Session, failed, ok_line, refused};
+use mt_base::{List, Registry, Value};
+use mt_outside::Shelf;
+
+impl Session {
+    /// `registry`: the registry of the file holds from now on.
+    pub fn set_registry<F: Shelf>(&mut self, file: &Value, shelf: &mut F) -> Reply
+        ensures { Stepped self.old (spec.Registry file.now) result self.new (F.files shelf.old) (F.files shelf.new) (F.failed shelf.old) (F.failed shelf.new) }
+    {
+        if self.is_late() {
+            return refused(self.alloc, &Refusal::RegistryLate);
+        }
+        let fetched = fetch(self.alloc, file.as_str(), shelf);
+        self.take_registry(file, fetched)
+    }
+
+    /// Whether a registry was accepted before, or a text is held. A grammar never is yet.
+    fn is_late(&self) -> bool
+        ensures { IsTrue result ↔ IsLate (held_of self.now) }
+    {
+        self.accepted || !self.corpus.is_empty()
+    }
+
+    /// Does with the file what was found of it.
+    fn take_registry(&mut self, file: &Value, fetched: Fetched) -> Reply
+        requires { IsLate (held_of self.old) → ⊥ }
+        ensures { (files : Files) → Finds files file.now fetched → Answers (with_files self.old files) (spec.Registry file.now) (failures file.now fetched) result (with_files self.new files) }
+    {
+        match fetched {
+            Fetched::Whole(bytes) => self.read_registry(&bytes),
+            Fetched::Absent => refused(self.alloc, &Refusal::NoSuchFile(file.as_str())),
+            Fetched::TooLong => refused(self.alloc, &Refusal::FileTooLong(file.as_str())),
+            Fetched::Failed => failed(self.alloc, file),
+            Fetched::NoMemory => Reply::NoMemory,
+        }
+    }
+
+    /// Reads the registry that these bytes are.
+    fn read_registry(&mut self, bytes: &List<u8>) -> Reply
+        ensures { ReadsRegistry self.old bytes.now result self.new }
+    {
+        match registry_of(self.alloc, bytes.as_slice()) {
+            Ok(registry) => self.keep_registry(registry),
+            Err(NoRegistry::Bad(line, cause)) => refused(self.alloc, &Refusal::BadRegistry(line, cause)),
+            Err(NoRegistry::NoAttribute) => refused(self.alloc, &Refusal::NoAttribute),
+            Err(NoRegistry::NoMemory) => Reply::NoMemory,
+        }
+    }
+
+    /// Sets the registry. The reply is made first.
+    fn keep_registry(&mut self, registry: Registry) -> Reply
+        requires { ValidRegistry registry }
+        ensures { SetsTo self.old registry result self.new }
+    {
+        let Ok(reply) = ok_line(self.alloc) else {
+            return Reply::NoMemory;
+        };
+        self.registry = registry;
+        self.accepted = true;
+        self.corpus = Corpus::new(self.alloc);
+        Reply::Lines(reply)
+    }
+}
