@@ -1,6 +1,6 @@
 use super::sources::{LineFeeds, OneByte};
 use mt_base::List;
-use mt_outside::{MemorySink, MemorySource};
+use mt_outside::{MemoryShelf, MemorySink, MemorySource};
 use mt_shell::{Status, run};
 use std::alloc::{AllocError, Global};
 use std::test::Fail;
@@ -11,7 +11,7 @@ const FIRST: &str = "text a 3\nthe\ncat\nthe\ncount [word==\"the\"]\n";
 const FIRST_REPLIES: &str = "ok 3\n= 2\n";
 
 /// Scripts with their replies. Each ends well.
-const SCRIPTS: [(&str, &str); 20] = [
+const SCRIPTS: [(&str, &str); 22] = [
     ("", ""),
     (FIRST, FIRST_REPLIES),
     ("text a 3\nthe\n", "! 11 CutShort\n"),
@@ -21,10 +21,12 @@ const SCRIPTS: [(&str, &str); 20] = [
         "text a 1\nx\ntext a 1\nquit\ncount [word==\"x\"]\n",
         "ok 1\n! 13 NameTaken a\n= 1\n",
     ),
+    ("text a 2\nx\n<s>\ncount [word==\"x\"]\n", "ok 1\n= 1\n"),
     (
-        "text a 2\nx\n<s>\ncount [word==\"x\"]\n",
-        "! 17 BadVertical 2 NotBuilt\n= 0\n",
+        "text a 2\nx\tN\tx\ny\nregistry r\ncount [tag==\"N\"]\ncount [nope==\"N\"]\n",
+        "ok 2\n! 12 RegistryLate\n= 1\n! 19 UnknownName nope\n",
     ),
+    ("text a 1\nx\nquit\ntext b 1\nx\n", "ok 1\nok\n"),
     (
         "text a 2\r\nx\r\nx\r\ncount [word==\"x\"]\r\n",
         "ok 2\n= 2\n",
@@ -48,14 +50,11 @@ const SCRIPTS: [(&str, &str); 20] = [
     ),
     (
         "batch 2 merge 0 1\ncount []\n#\nquit\ntext a 0\n",
-        "! 10 BadCommand\n! 10 BadCommand\nok 0\n",
+        "! 10 BadCommand\nok\n",
     ),
     ("batch 33\ntext a 1\nx\n", "! 10 BadCommand\nok 1\n"),
     ("rules 1\n", "! 11 CutShort\n"),
-    (
-        "text a 2\nx\n\ntext b 2\nx\nx",
-        "! 17 BadVertical 2 NotBuilt\nok 2\n",
-    ),
+    ("text a 2\nx\n\ntext b 2\nx\nx", "ok 1\nok 2\n"),
 ];
 
 fn bytes(alloc: Global, text: &[u8]) -> Result<List<u8>, AllocError> {
@@ -64,6 +63,17 @@ fn bytes(alloc: Global, text: &[u8]) -> Result<List<u8>, AllocError> {
 
 fn calls(alloc: Global, numbers: &[u32]) -> Result<List<u32>, AllocError> {
     Ok(List::from_vec(Vec::from_slice(alloc, numbers)?))
+}
+
+/// A shelf with these files, of which these calls fail.
+fn shelf(alloc: Global, files: &[(&str, &str)], fails: &[u32]) -> Result<MemoryShelf, AllocError> {
+    let mut shelf = MemoryShelf::new(alloc, calls(alloc, fails)?);
+    for (name, text) in files {
+        if shelf.put(name, text.as_bytes()).is_err() {
+            return Err(AllocError);
+        }
+    }
+    Ok(shelf)
 }
 
 /// Runs the script with these reads and these writes failing, and gives the status and what was written.
@@ -75,7 +85,8 @@ fn ran(
 ) -> Result<(Status, MemorySink), AllocError> {
     let mut source = MemorySource::new(bytes(alloc, script)?, calls(alloc, reads)?);
     let mut sink = MemorySink::new(alloc, calls(alloc, writes)?);
-    let status = run(alloc, &[], &mut source, &mut sink);
+    let mut shelf = shelf(alloc, &[], &[])?;
+    let status = run(alloc, &[], &mut source, &mut sink, &mut shelf);
     Ok((status, sink))
 }
 
@@ -90,7 +101,9 @@ fn scripts_have_their_replies(rt: HostRuntime) -> Result<(), Fail> {
             rest: script.as_bytes(),
         };
         let mut sink = MemorySink::new(rt.alloc(), List::new(rt.alloc()));
-        assert_eq!(rt; run(rt.alloc(), &[], &mut pieces, &mut sink), Status::Done);
+        let mut shelf = shelf(rt.alloc(), &[], &[])?;
+        let status = run(rt.alloc(), &[], &mut pieces, &mut sink, &mut shelf);
+        assert_eq!(rt; status, Status::Done);
         assert_eq!(rt; sink.written().as_slice(), replies.as_bytes());
     }
     Ok(())
@@ -120,24 +133,93 @@ fn a_word_is_usage(rt: HostRuntime) -> Result<(), Fail> {
     let words = vec![in rt.alloc(); String::from_str(rt.alloc(), "--workers")?]?;
     let mut source = MemorySource::new(bytes(rt.alloc(), FIRST.as_bytes())?, List::new(rt.alloc()));
     let mut sink = MemorySink::new(rt.alloc(), List::new(rt.alloc()));
-    assert_eq!(rt;
-        run(rt.alloc(), &words, &mut source, &mut sink),
-        Status::Usage
-    );
+    let mut shelf = shelf(rt.alloc(), &[], &[])?;
+    let status = run(rt.alloc(), &words, &mut source, &mut sink, &mut shelf);
+    assert_eq!(rt; status, Status::Usage);
     assert!(rt; sink.written().is_empty());
     Ok(())
 }
 
 #[test]
 fn a_script_has_a_greatest_length(rt: HostRuntime) -> Result<(), Fail> {
-    for (left, status) in [
+    for (left, want) in [
         (268_435_456, Status::Done),
         (268_435_457, Status::ScriptTooLong),
     ] {
         let mut source = LineFeeds { left };
         let mut sink = MemorySink::new(rt.alloc(), List::new(rt.alloc()));
-        assert_eq!(rt; run(rt.alloc(), &[], &mut source, &mut sink), status);
+        let mut shelf = shelf(rt.alloc(), &[], &[])?;
+        let status = run(rt.alloc(), &[], &mut source, &mut sink, &mut shelf);
+        assert_eq!(rt; status, want);
         assert!(rt; sink.written().is_empty());
+    }
+    Ok(())
+}
+
+/// The files of the scripts below.
+const FILES: [(&str, &str); 4] = [
+    ("r", "ATTRIBUTE w\nATTRIBUTE tag\nSTRUCTURE s\n"),
+    ("bad", "ATTRIBUTE w\nATTRIBUTE w\n"),
+    ("none", ""),
+    ("v", "<s>\nbig\tJ\nbig\tN\n</s>\n"),
+];
+
+/// A script over files, and its replies.
+const OVER_FILES: &str =
+    "registry gone\nregistry bad\nregistry none\nregistry r\nregistry r\nadd a v\nadd a gone\nadd b gone\ncount [tag==\"J\"]\n";
+
+const OVER_FILES_REPLIES: [&str; 9] = [
+    "! 14 NoSuchFile gone\n",
+    "! 16 BadRegistry 2 Twice\n",
+    "! 16 BadRegistry 0 NoAttribute\n",
+    "ok\n",
+    "! 12 RegistryLate\n",
+    "ok 2\n",
+    "! 13 NameTaken a\n",
+    "! 14 NoSuchFile gone\n",
+    "= 1\n",
+];
+
+/// Runs the script over the files with this call of the shelf failing, and gives the status and what was written.
+fn ran_over_files(
+    alloc: Global,
+    script: &str,
+    fails: &[u32],
+) -> Result<(Status, MemorySink), AllocError> {
+    let mut source = MemorySource::new(bytes(alloc, script.as_bytes())?, List::new(alloc));
+    let mut sink = MemorySink::new(alloc, List::new(alloc));
+    let mut shelf = shelf(alloc, &FILES, fails)?;
+    let status = run(alloc, &[], &mut source, &mut sink, &mut shelf);
+    Ok((status, sink))
+}
+
+#[test]
+fn files_are_read(rt: HostRuntime) -> Result<(), Fail> {
+    let (status, sink) = ran_over_files(rt.alloc(), OVER_FILES, &[])?;
+    assert_eq!(rt; status, Status::Done);
+    let mut replies = Vec::new(rt.alloc());
+    for reply in OVER_FILES_REPLIES {
+        replies.extend_from_slice(reply.as_bytes())?;
+    }
+    assert_eq!(rt; sink.written().as_slice(), replies.as_slice());
+    Ok(())
+}
+
+/// A short script over files, and what it answers where this call of the shelf fails: each failure is told at its own command.
+const FAILED_CALLS: [(u32, &str); 4] = [
+    (1, "! 29 ShelfFailed r\nok 2\nok 2\n! 19 UnknownName w\n"),
+    (2, "ok\n! 29 ShelfFailed v\nok 2\n= 2\n"),
+    (3, "ok\nok 2\n! 29 ShelfFailed v\n= 2\n"),
+    (4, "ok\nok 2\nok 2\n= 4\n"),
+];
+
+#[test]
+fn each_call_of_the_shelf_fails(rt: HostRuntime) -> Result<(), Fail> {
+    let script = "registry r\nadd a v\nadd b v\ncount [w==\"big\"]\n";
+    for (call, replies) in FAILED_CALLS {
+        let (status, sink) = ran_over_files(rt.alloc(), script, &[call])?;
+        assert_eq!(rt; status, Status::Done);
+        assert_eq!(rt; sink.written().as_slice(), replies.as_bytes());
     }
     Ok(())
 }

@@ -7,7 +7,7 @@ ghost use Rattle.mt_prog.specs.Exits.{exit_of};
 mod standard;
 
 use mt_shell::{Status, run};
-use standard::{StdinSource, StdoutSink};
+use standard::{FolderShelf, StdinSource, StdoutSink};
 use std::process::ExitCode;
 use std::{env, io};
 
@@ -32,11 +32,12 @@ fn words(rt: &HostRuntime) -> io::Result<Vec<String>> {
         .map_err(io::Error::from)
 }
 
-/// Answers the script on standard input.
+/// Answers the script on standard input, over the files of the folder in which the program starts.
 fn answer(rt: &HostRuntime, words: &[String]) -> Status {
     let mut source = StdinSource::new(rt.stdin());
     let mut sink = StdoutSink::new(rt.stdout());
-    run(rt.alloc(), words, &mut source, &mut sink)
+    let mut shelf = FolderShelf::new(rt);
+    run(rt.alloc(), words, &mut source, &mut sink, &mut shelf)
 }
 
 /// The status where the words cannot be had: those that are no text are not good.

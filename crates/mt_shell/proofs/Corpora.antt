@@ -72,8 +72,10 @@ tokens_decide texts groups tokens held g few e short =
   where
     by_lt : (a b : ℕ) → IsTrue (nat_lt a b) → a < b
     by_lt a b h = grind (arith, common_steps)
+
     to_lt : (a b : ℕ) → a < b → IsTrue (nat_lt a b)
     to_lt a b h = grind (arith, common_steps)
+
     from : (texts_limit ≤ length texts) ⊎ (tokens_limit < held + tokens) → IsTrue (nat_lt (tokens_limit - held) tokens)
     from (inl many) = absurd (few many)
     from (inr much) = to_lt (tokens_limit - held) tokens (omega arith)
@@ -87,6 +89,7 @@ room_left texts text groups g room =
     by : (length texts < texts_limit) ⊎ (texts_limit ≤ length texts) → kept_texts groups ≡ texts → length texts < texts_limit
     by (inl low) all = low
     by (inr high) all = absurd (room (inl (rw all high)))
+
     by2 : (tokens_limit < total_tokens texts + length text.tokens) ⊎ (total_tokens texts + length text.tokens ≤ tokens_limit) → kept_texts groups ≡ texts → total_tokens texts + length text.tokens ≤ tokens_limit
     by2 (inl much) all = absurd (room (inr (rw all much)))
     by2 (inr low) all = low

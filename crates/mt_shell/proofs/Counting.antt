@@ -49,10 +49,6 @@ unknown held cql name value reply r none d files =
     declines (with_files held files) (Asks (Count cql)) [] (UnknownName name) reply (no_quit cql)
     (record { cause = ((value, r), none); first = λ other l. unknown_first (with_files held files) cql name value other r l }) d
 
-
-
-
-
 contains_at : (names : List (List ℕ)) (n : ℕ) (name : List ℕ) → slice_get names n ≡ Some name → Contains names name
 contains_at names n name e = (n, slice_get_within names n name e, get_or_from_slice_get names n name name e)
 
@@ -75,9 +71,11 @@ none_refuses world cql name value number r e CorpusFull h = h
 -- a query that is answered
 pub counted : (held : Standing) (cql name value line : List ℕ) (number : ℕ) → IsLiteral cql name value → slice_get (attr_names held.registry.attrs) number ≡ Some name →
     line ≡ closed (codes "=" ++ 32 ∷ decimal (occurrences (corpus_of held.groups) (column_of held.registry.attrs number) value)) → AnswersAlone held (Asks (Count cql)) (Lines line) held
-counted held cql name value line number r n e files =
-    (no_quit cql, inl (Accepted (with_files held files) line (none_refuses (with_files held files) cql name value number r n)
-    (record { name = name; value = value; read = r; number = number; named = n; same = refl; says = e })))
+counted held cql name value line number r n e files = (
+  no_quit cql,
+  inl (Accepted (with_files held files) line (none_refuses (with_files held files) cql name value number r n)
+      (record { name = name; value = value; read = r; number = number; named = n; same = refl; says = e })),
+)
 
 pub number_within : (attrs : List Attr) (number : ℕ) (name : List ℕ) → slice_get (attr_names attrs) number ≡ Some name → number < length attrs
 number_within attrs number name e = let low = slice_get_within (attr_names attrs) number name e in omega (arith, low, length-map attrs (λ (attr : Attr). attr.name))

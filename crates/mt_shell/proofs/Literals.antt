@@ -15,7 +15,6 @@ use Rattle.mt_text_spec.specs.Words.{IsIdentifier, is_identifier_byte}
 use Rattle.mt_session_spec.specs.Counting.{IsLiteral}
 use Rattle.mt_shell.specs.Literals.{HasNoSign, IsSplit}
 
-
 -- ## Identifiers
 
 no_sign_byte : (b : ℕ) → is_identifier_byte b ≡ true → (b == 61) ≡ false

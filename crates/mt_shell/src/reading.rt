@@ -61,8 +61,14 @@ pub fn registry_of(alloc: Global, bytes: &[u8]) -> Result<Registry, NoRegistry>
         Err(RegistryError::Syntax(line)) => Err(NoRegistry::Bad(line, RegistryCause::Syntax)),
         Err(RegistryError::Twice(line)) => Err(NoRegistry::Bad(line, RegistryCause::Twice)),
         Err(RegistryError::TooMany(line)) => Err(NoRegistry::Bad(line, RegistryCause::TooMany)),
-        Err(RegistryError::UnknownMapper(line)) => Err(NoRegistry::Bad(line, RegistryCause::UnknownMapper)),
-        Err(RegistryError::UnknownBase(line)) => Err(NoRegistry::Bad(line, RegistryCause::UnknownBase)),
+        Err(RegistryError::UnknownMapper(line)) => Err(NoRegistry::Bad(
+            line,
+            RegistryCause::UnknownMapper,
+        )),
+        Err(RegistryError::UnknownBase(line)) => Err(NoRegistry::Bad(
+            line,
+            RegistryCause::UnknownBase,
+        )),
         Err(RegistryError::NoAttribute) => Err(NoRegistry::NoAttribute),
         Err(RegistryError::NoMemory) => Err(NoRegistry::NoMemory),
     }

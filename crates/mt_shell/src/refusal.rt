@@ -61,9 +61,22 @@ impl Refusal<'_> {
             Refusal::NameTaken(name) => Ok(format!(in alloc; "! 13 NameTaken {name}\n")?),
             Refusal::NoSuchFile(file) => Ok(format!(in alloc; "! 14 NoSuchFile {file}\n")?),
             Refusal::FileTooLong(file) => Ok(format!(in alloc; "! 15 FileTooLong {file}\n")?),
-            Refusal::BadRegistry(line, cause) => bad_line(alloc, "! 16 BadRegistry", *line, cause.word()),
-            Refusal::NoAttribute => Ok(String::from_str(alloc, "! 16 BadRegistry 0 NoAttribute\n")?),
-            Refusal::BadVertical(line, cause) => bad_line(alloc, "! 17 BadVertical", *line, cause.word()),
+            Refusal::BadRegistry(line, cause) => bad_line(
+                alloc,
+                "! 16 BadRegistry",
+                *line,
+                cause.word(),
+            ),
+            Refusal::NoAttribute => Ok(String::from_str(
+                alloc,
+                "! 16 BadRegistry 0 NoAttribute\n",
+            )?),
+            Refusal::BadVertical(line, cause) => bad_line(
+                alloc,
+                "! 17 BadVertical",
+                *line,
+                cause.word(),
+            ),
             Refusal::UnknownName(name) => Ok(format!(in alloc; "! 19 UnknownName {name}\n")?),
             Refusal::CorpusFull => Ok(String::from_str(alloc, "! 23 CorpusFull\n")?),
         }

@@ -50,7 +50,12 @@ impl Talk {
     }
 
     /// Takes a piece of the script, and answers the items that are whole.
-    pub fn take<K: Sink, F: Shelf>(&mut self, piece: &[u8], sink: &mut K, shelf: &mut F) -> Result<Flow, SinkError>
+    pub fn take<K: Sink, F: Shelf>(
+        &mut self,
+        piece: &[u8],
+        sink: &mut K,
+        shelf: &mut F,
+    ) -> Result<Flow, SinkError>
         requires { self.old.reader.ended ≡ false }
         ensures on { result ≡ Ok Flow.On → Tells (seen (K.held sink.old) (F.files shelf.old) (F.failed shelf.old)) (λ start.
             Progress false (self.old.reader.bytes ++ piece.now) self.new.reader.bytes (held_of self.old.session) (held_of self.new.session) start (seen (K.held sink.new) (F.files shelf.new) (F.failed shelf.new))) }
@@ -70,7 +75,11 @@ impl Talk {
     }
 
     /// Answers what is left where the script has ended.
-    pub fn finish<K: Sink, F: Shelf>(&mut self, sink: &mut K, shelf: &mut F) -> Result<Flow, SinkError>
+    pub fn finish<K: Sink, F: Shelf>(
+        &mut self,
+        sink: &mut K,
+        shelf: &mut F,
+    ) -> Result<Flow, SinkError>
         ensures on { result ≡ Ok Flow.On → Tells (seen (K.held sink.old) (F.files shelf.old) (F.failed shelf.old)) (λ start.
             Progress true self.old.reader.bytes self.new.reader.bytes (held_of self.old.session) (held_of self.new.session) start (seen (K.held sink.new) (F.files shelf.new) (F.failed shelf.new))) }
         ensures over { result ≡ Ok Flow.Over → Tells (seen (K.held sink.old) (F.files shelf.old) (F.failed shelf.old)) (λ start.

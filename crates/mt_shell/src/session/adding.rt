@@ -65,7 +65,10 @@ impl Session {
     {
         match text_of(self.alloc, name.as_str(), bytes, &self.registry) {
             Ok(text) => self.keep_text(text),
-            Err(NoText::Bad(line, cause)) => refused(self.alloc, &Refusal::BadVertical(line, cause)),
+            Err(NoText::Bad(line, cause)) => refused(
+                self.alloc,
+                &Refusal::BadVertical(line, cause),
+            ),
             Err(NoText::NoMemory) => Reply::NoMemory,
         }
     }

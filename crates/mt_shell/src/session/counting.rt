@@ -57,7 +57,10 @@ fn occurrences_in(tokens: &[Token], column: usize, value: &[u8]) -> usize
     ensures count { result ≡ count_by (λ token. bytes_eq (value_of token column) value.now) tokens.now }
     ensures bound { result ≤ length tokens.now }
 {
-    tokens.iter().filter(|token| value_at(token, column) == value).count()
+    tokens
+        .iter()
+        .filter(|token| value_at(token, column) == value)
+        .count()
 }
 
 /// The value of a token at a base attribute.

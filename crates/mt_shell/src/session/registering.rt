@@ -56,7 +56,10 @@ impl Session {
     {
         match registry_of(self.alloc, bytes.as_slice()) {
             Ok(registry) => self.keep_registry(registry),
-            Err(NoRegistry::Bad(line, cause)) => refused(self.alloc, &Refusal::BadRegistry(line, cause)),
+            Err(NoRegistry::Bad(line, cause)) => refused(
+                self.alloc,
+                &Refusal::BadRegistry(line, cause),
+            ),
             Err(NoRegistry::NoAttribute) => refused(self.alloc, &Refusal::NoAttribute),
             Err(NoRegistry::NoMemory) => Reply::NoMemory,
         }

@@ -29,9 +29,9 @@ pub returns-else-is_identifier : goal.returns-else-is_identifier
 returns-else-is_identifier c = λ (name value : List ℕ) l.
     let same = (same_parts c.args.cql.now c.in_ok-rest.rest.now c.in_ok-name.name.now c.in_ok-name.value.now name value c.in_ok-rest.ensures.cases.1 c.in_ok-name.ensures l).0 in
     let inside = same_value c.args.cql.now c.in_ok-rest.rest.now c.in_ok-name.name.now c.in_ok-name.value.now c.in_ok-value.value.now name value c.in_ok-rest.ensures.cases.1 c.in_ok-name.ensures
-        c.in_ok-value.ensures.cases.1 l in
+    c.in_ok-value.ensures.cases.1 l in
     let bytes_are : c.as_bytes.result.now ≡ name = c.as_bytes.ensures.value ∙ c.in-Ok.ensures.cases.0 ∙ same in
     elim c.else-is_identifier.branch [
-      else-is_identifier-via-then-is_identifier+else-is_word w ↦ not_true w.is_word.result (w.is_word.ensures.1 (rw inside (l.some, l.plain))) w.if-is_word.false
+      | else-is_identifier-via-then-is_identifier+else-is_word w ↦ not_true w.is_word.result (w.is_word.ensures.1 (rw inside (l.some, l.plain))) w.if-is_word.false
       | else-is_identifier-via-else-is_identifier w ↦ not_true c.is_identifier.result (c.is_identifier.ensures.1 (rw bytes_are l.named)) w.if-is_identifier.false
     ]

@@ -33,5 +33,5 @@ returns g c =
     let files = g.F.Shelf.files c.args.shelf.now in
     let failed = g.F.Shelf.failed c.args.shelf.now in
     let means = steps_alone c.args.self.now c.args.self.now (command_of c.args.command) c.refused.result files failed
-        (unbuilt_command c.args.self.now c.args.command c.refused.result c.in_default.not-Registry c.in_default.not-Text c.in_default.not-Add c.in_default.not-Ask c.in_default.not-Quit c.refused.ensures) in
+    (unbuilt_command c.args.self.now c.args.command c.refused.result c.in_default.not-Registry c.in_default.not-Text c.in_default.not-Add c.in_default.not-Ask c.in_default.not-Quit c.refused.ensures) in
     record { means = means; refused = keeps_refused c.args.self.now c.args.self.now (command_of c.args.command) c.refused.result files files failed failed means }
