@@ -1,0 +1,14 @@
+pub mod Building
+pub mod TestLaws
+pub mod Spelling
+pub mod Reading
+pub mod Closing
+pub mod Caps
+pub mod PartLaws
+pub mod Steps
+pub mod Verdicts
+pub mod Strings
+pub mod Words
+pub mod Chains
+pub mod Numbering
+pub mod Unescaping

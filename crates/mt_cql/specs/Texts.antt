@@ -1,0 +1,9 @@
+-- What falls away in a string.
+use Rattle.std.specs.Prelude.{ℕ, ◌==◌, ◌||◌, Bool, not, cond}
+
+abbrev pub is_plain : ℕ → Bool
+is_plain b = not (b == 92)
+
+-- a backslash before `"` falls away, and in a literal one before a backslash
+abbrev pub falls : Bool → ℕ → Bool
+falls literal b = cond literal (b == 34 || b == 92) (b == 34)

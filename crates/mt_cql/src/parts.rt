@@ -1,0 +1,453 @@
+//! What is kept of what was read: a part of the query, and what of it is at fault.
+
+ghost use Rattle.std.specs.Prelude.{◌≡◌, ◌+◌, map, None, IfOk};
+ghost use Rattle.mt_query_spec.specs.Meaning as meaning;
+ghost use Rattle.mt_cql.specs.Parts as spec;
+ghost use Rattle.mt_cql.specs.Shape.{shape, test_shape, filters_shape, test_part_seen, part_seen, label_seen, filter_seen, operand_seen, filters_seen, op_seen};
+
+use super::query::{Cond, Expr, Filter, FilterKind, Filters, Test};
+use super::stack::Stack;
+use mt_base::{List, NoMemory};
+use std::alloc::Global;
+
+/// The first of two places, where `left` stands before `right`.
+pub fn first_of(left: Option<u32>, right: Option<u32>) -> Option<u32>
+    ensures { result ≡ meaning.first_of left right }
+{
+    match left {
+        Some(at) => Some(at),
+        None => right,
+    }
+}
+
+/// The least of two places.
+pub fn least_of(left: Option<u32>, right: Option<u32>) -> Option<u32>
+    ensures { result ≡ meaning.least_of left right }
+{
+    match (left, right) {
+        (Some(at), Some(other)) => Some(at.min(other)),
+        (Some(at), None) => Some(at),
+        (None, _) => right,
+    }
+}
+
+fn sum(left: u32, right: u32) -> u32
+    ensures { result ≡ spec.capped (left + right) }
+{
+    left.saturating_add(right)
+}
+
+fn more(n: u32) -> u32
+    ensures { result ≡ spec.capped (n + 1) }
+{
+    n.saturating_add(1)
+}
+
+/// A test that was read.
+#[derive(Drop)]
+pub struct TestPart {
+    pub test: Test,
+    /// The place of the first name in it that is not declared.
+    pub unknown: Option<u32>,
+    /// How many tests it has.
+    pub nodes: u32,
+}
+
+impl TestPart {
+    pub fn one(test: Test, unknown: Option<u32>) -> TestPart
+        ensures { test_part_seen result ≡ record { test = test_shape test; unknown = unknown; nodes = 1 } }
+    {
+        TestPart {
+            test,
+            unknown,
+            nodes: 1,
+        }
+    }
+
+    pub fn not(alloc: Global, inner: TestPart) -> Result<TestPart, NoMemory>
+        ensures { IfOk result (λ p. test_part_seen p ≡ spec.not_part (test_part_seen inner)) }
+    {
+        Ok(TestPart {
+            test: Test::Not(Box::new(alloc, inner.test)?),
+            unknown: inner.unknown,
+            nodes: more(inner.nodes),
+        })
+    }
+
+    pub fn both(alloc: Global, left: TestPart, right: TestPart) -> Result<TestPart, NoMemory>
+        ensures { IfOk result (λ p. test_part_seen p ≡ spec.both_part (test_part_seen left) (test_part_seen right)) }
+    {
+        Ok(TestPart {
+            test: Test::Both(Box::new(alloc, left.test)?, Box::new(alloc, right.test)?),
+            unknown: first_of(left.unknown, right.unknown),
+            nodes: more(sum(left.nodes, right.nodes)),
+        })
+    }
+
+    pub fn either(alloc: Global, left: TestPart, right: TestPart) -> Result<TestPart, NoMemory>
+        ensures { IfOk result (λ p. test_part_seen p ≡ spec.either_part (test_part_seen left) (test_part_seen right)) }
+    {
+        Ok(TestPart {
+            test: Test::Either(Box::new(alloc, left.test)?, Box::new(alloc, right.test)?),
+            unknown: first_of(left.unknown, right.unknown),
+            nodes: more(sum(left.nodes, right.nodes)),
+        })
+    }
+}
+
+/// An expression that was read.
+#[derive(Drop)]
+pub struct Part {
+    pub expr: Expr,
+    /// Where each label first stands.
+    pub labels: [Option<u32>; 9],
+    /// The least place of a label at fault.
+    pub label: Option<u32>,
+    /// The least place of a repetition from more to fewer.
+    pub range: Option<u32>,
+    /// The place of the first name that is not declared.
+    pub unknown: Option<u32>,
+    pub nodes: u32,
+    pub size: u32,
+}
+
+/// A label before a token test, or none.
+#[derive(Clone, Copy, Drop)]
+pub enum Label {
+    NoLabel,
+    Labelled { at: u32, number: u32 },
+}
+
+/// The place of a label, where it has this number.
+fn at_label(n: u32, label: Label) -> Option<u32>
+    ensures { result ≡ meaning.at_label n (label_seen label) }
+{
+    match label {
+        Label::NoLabel => None,
+        Label::Labelled { at, number } => { if number == n { Some(at) } else { None } }
+    }
+}
+
+/// Where each label stands in a token test under a label.
+fn label_places(label: Label) -> [Option<u32>; 9]
+    ensures { result ≡ spec.label_places_of (label_seen label) }
+{
+    [
+        at_label(1, label),
+        at_label(2, label),
+        at_label(3, label),
+        at_label(4, label),
+        at_label(5, label),
+        at_label(6, label),
+        at_label(7, label),
+        at_label(8, label),
+        at_label(9, label),
+    ]
+}
+
+fn no_labels() -> [Option<u32>; 9]
+    ensures { result ≡ spec.no_labels }
+{
+    [None, None, None, None, None, None, None, None, None]
+}
+
+/// The place of a number that is no label.
+fn no_label(label: Label) -> Option<u32>
+    ensures { result ≡ meaning.no_label (label_seen label) }
+{
+    match label {
+        Label::NoLabel => None,
+        Label::Labelled { at, number } => {
+            if number > 0 && number < 10 {
+                None
+            } else {
+                Some(at)
+            }
+        }
+    }
+}
+
+/// A label as a query keeps it.
+fn kept_label(number: u32) -> u8
+    ensures { result ≡ meaning.kept_label number }
+{
+    if number < 10 { number as u8 } else { 0 }
+}
+
+fn label_number(label: Label) -> u8
+    ensures { result ≡ meaning.label_number (label_seen label) }
+{
+    match label {
+        Label::NoLabel => 0,
+        Label::Labelled { at: _, number } => kept_label(number),
+    }
+}
+
+/// The first place of each label in two parts, one after the other.
+fn firsts(left: [Option<u32>; 9], right: [Option<u32>; 9]) -> [Option<u32>; 9]
+    ensures { result ≡ spec.firsts left right }
+{
+    [
+        first_of(left[0], right[0]),
+        first_of(left[1], right[1]),
+        first_of(left[2], right[2]),
+        first_of(left[3], right[3]),
+        first_of(left[4], right[4]),
+        first_of(left[5], right[5]),
+        first_of(left[6], right[6]),
+        first_of(left[7], right[7]),
+        first_of(left[8], right[8]),
+    ]
+}
+
+/// The least of some places.
+fn least(places: &[Option<u32>]) -> Option<u32>
+    ensures { result ≡ meaning.least places.now }
+{
+    match places.split_first() {
+        None => None,
+        Some((place, others)) => least_of(*place, least(others)),
+    }
+}
+
+/// The least of the places in a second part of labels that stand in the first one too.
+fn least_again(firsts: &[Option<u32>], seconds: &[Option<u32>]) -> Option<u32>
+    ensures { result ≡ meaning.least (meaning.again firsts.now seconds.now) }
+{
+    match firsts.split_first() {
+        None => None,
+        Some((first, firsts)) => match seconds.split_first() {
+            None => None,
+            Some((second, seconds)) => {
+                let others = least_again(firsts, seconds);
+                match first {
+                    None => others,
+                    Some(_) => least_of(*second, others),
+                }
+            }
+        },
+    }
+}
+
+impl Part {
+    /// A token test under a label.
+    pub fn token(label: Label, test: TestPart) -> Part
+        ensures { part_seen result ≡ spec.token_part (label_seen label) (test_part_seen test) }
+    {
+        Part {
+            expr: Expr::Token {
+                label: label_number(label),
+                test: test.test,
+            },
+            labels: label_places(label),
+            label: no_label(label),
+            range: None,
+            unknown: test.unknown,
+            nodes: more(test.nodes),
+            size: 1,
+        }
+    }
+
+    /// A tag, with the first name in it that is not declared and its nodes.
+    pub fn tag(expr: Expr, unknown: Option<u32>, nodes: u32) -> Part
+        ensures { part_seen result ≡ record { expr = shape expr; labels = spec.no_labels; label = None; range = None; unknown = unknown; nodes = nodes; size = 1 } }
+    {
+        Part {
+            expr,
+            labels: no_labels(),
+            label: None,
+            range: None,
+            unknown,
+            nodes,
+            size: 1,
+        }
+    }
+
+    /// A part so many times, where `turned` is the place of a `{` with the greater number first.
+    pub fn repeated(
+        alloc: Global,
+        inner: Part,
+        turns: u32,
+        most: u32,
+        turned: Option<u32>,
+    ) -> Result<Part, NoMemory>
+        ensures { IfOk result (λ p. part_seen p ≡ spec.repeats_part (part_seen inner) turns most turned) }
+    {
+        let under = if 1 < most { least(&inner.labels) } else { None };
+        Ok(Part {
+            expr: Expr::Repeat {
+                inner: Box::new(alloc, inner.expr)?,
+                least: turns,
+                most,
+            },
+            labels: inner.labels,
+            label: least_of(inner.label, under),
+            range: least_of(inner.range, turned),
+            unknown: inner.unknown,
+            nodes: more(inner.nodes),
+            size: inner.size.saturating_mul(most.max(1)),
+        })
+    }
+
+    /// One part after another.
+    pub fn then(alloc: Global, left: Part, right: Part) -> Result<Part, NoMemory>
+        ensures { IfOk result (λ p. part_seen p ≡ spec.then_part (part_seen left) (part_seen right)) }
+    {
+        let again = least_again(&left.labels, &right.labels);
+        Ok(Part {
+            expr: Expr::Seq(Box::new(alloc, left.expr)?, Box::new(alloc, right.expr)?),
+            labels: firsts(left.labels, right.labels),
+            label: least_of(left.label, least_of(right.label, again)),
+            range: least_of(left.range, right.range),
+            unknown: first_of(left.unknown, right.unknown),
+            nodes: more(sum(left.nodes, right.nodes)),
+            size: sum(left.size, right.size),
+        })
+    }
+
+    /// Either of two parts.
+    pub fn or(alloc: Global, left: Part, right: Part) -> Result<Part, NoMemory>
+        ensures { IfOk result (λ p. part_seen p ≡ spec.or_part (part_seen left) (part_seen right)) }
+    {
+        Ok(Part {
+            expr: Expr::Choice(Box::new(alloc, left.expr)?, Box::new(alloc, right.expr)?),
+            labels: firsts(left.labels, right.labels),
+            label: least_of(left.label, right.label),
+            range: least_of(left.range, right.range),
+            unknown: first_of(left.unknown, right.unknown),
+            nodes: more(sum(left.nodes, right.nodes)),
+            size: sum(left.size, right.size),
+        })
+    }
+}
+
+/// An operand that was read, with its filters.
+#[derive(Drop)]
+pub struct OperandPart {
+    pub head: Expr,
+    pub filters: Filters,
+    pub label: Option<u32>,
+    pub range: Option<u32>,
+    pub unknown: Option<u32>,
+    pub nodes: u32,
+    pub size: u32,
+}
+
+/// Filters that were read, from left to right.
+#[derive(Drop)]
+pub struct FiltersPart {
+    pub filters: List<Filter>,
+    pub label: Option<u32>,
+    pub range: Option<u32>,
+    pub unknown: Option<u32>,
+    pub nodes: u32,
+    pub size: u32,
+}
+
+/// The filters of a list, as a query keeps them.
+fn chained(alloc: Global, filters: List<Filter>) -> Result<Filters, NoMemory>
+    ensures { IfOk result (λ chain. filters_shape chain ≡ meaning.chained (map filter_seen filters)) }
+{
+    let mut filters = Stack::of(filters.into_vec());
+    let mut chain = Filters::End;
+    while let Some(filter) = filters.pop() {
+        chain = Filters::More(Box::new(alloc, filter)?, Box::new(alloc, chain)?);
+    }
+    Ok(chain)
+}
+
+impl OperandPart {
+    /// An operand without filters.
+    pub fn plain(choice: Part) -> OperandPart
+        ensures { operand_seen result ≡ spec.plain_part (part_seen choice) }
+    {
+        OperandPart {
+            head: choice.expr,
+            filters: Filters::End,
+            label: least_of(choice.label, least(&choice.labels)),
+            range: choice.range,
+            unknown: choice.unknown,
+            nodes: choice.nodes,
+            size: choice.size,
+        }
+    }
+
+    /// An operand with filters.
+    pub fn filtered(
+        alloc: Global,
+        choice: Part,
+        filters: FiltersPart,
+    ) -> Result<OperandPart, NoMemory>
+        ensures { IfOk result (λ o. operand_seen o ≡ spec.with_filters_part (part_seen choice) (filters_seen filters)) }
+    {
+        let label = least_of(choice.label, least(&choice.labels));
+        Ok(OperandPart {
+            head: choice.expr,
+            filters: chained(alloc, filters.filters)?,
+            label: least_of(label, filters.label),
+            range: least_of(choice.range, filters.range),
+            unknown: first_of(choice.unknown, filters.unknown),
+            nodes: sum(choice.nodes, filters.nodes),
+            size: sum(choice.size, filters.size),
+        })
+    }
+}
+
+impl FiltersPart {
+    /// One filter.
+    pub fn one(
+        alloc: Global,
+        kind: FilterKind,
+        operand: OperandPart,
+    ) -> Result<FiltersPart, NoMemory>
+        ensures { IfOk result (λ f. filters_seen f ≡ spec.filter_by (op_seen kind) (operand_seen operand)) }
+    {
+        let mut filters = List::new(alloc);
+        filters.push(Filter {
+            kind,
+            head: operand.head,
+            filters: operand.filters,
+        })?;
+        Ok(FiltersPart {
+            filters,
+            label: operand.label,
+            range: operand.range,
+            unknown: operand.unknown,
+            nodes: more(operand.nodes),
+            size: operand.size,
+        })
+    }
+
+    /// One filter more.
+    pub fn more(
+        filters: FiltersPart,
+        kind: FilterKind,
+        operand: OperandPart,
+    ) -> Result<FiltersPart, NoMemory>
+        ensures { IfOk result (λ f. filters_seen f ≡ spec.more_by (filters_seen filters) (op_seen kind) (operand_seen operand)) }
+    {
+        let mut list = filters.filters;
+        list.push(Filter {
+            kind,
+            head: operand.head,
+            filters: operand.filters,
+        })?;
+        Ok(FiltersPart {
+            filters: list,
+            label: least_of(filters.label, operand.label),
+            range: least_of(filters.range, operand.range),
+            unknown: first_of(filters.unknown, operand.unknown),
+            nodes: more(sum(filters.nodes, operand.nodes)),
+            size: sum(filters.size, operand.size),
+        })
+    }
+}
+
+/// Conditions that were read.
+#[derive(Drop)]
+pub struct CondsPart {
+    pub conds: List<Cond>,
+    pub label: Option<u32>,
+    pub unknown: Option<u32>,
+    pub nodes: u32,
+}

@@ -1,0 +1,5 @@
+pub mod Tokens
+pub mod Trees
+pub mod Measures
+pub mod Meaning
+pub mod Verdicts
