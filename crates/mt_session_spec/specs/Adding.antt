@@ -3,7 +3,7 @@ use Rattle.std.specs.Prelude.{ℕ, ◌≡◌, List, ◌++◌, length, codes}
 use Rattle.std.specs.Fmt.{decimal}
 use Rattle.mt_text_spec.specs.Lines.{closed}
 use Rattle.mt_text_spec.specs.Texts.{Text}
-use Rattle.mt_file_spec.specs.Vertical.{Vertical, FirstTextFault, TextCause}
+use Rattle.mt_file_spec.specs.Vertical.{Vertical, FirstTextFault}
 use Rattle.mt_session_spec.specs.World.{Held, World, Holds, IsFull, with_text}
 use Rattle.mt_session_spec.specs.Refusals.{Refusal, BadCommand, CutShort, RegistryLate, NameTaken, NoSuchFile, FileTooLong, BadRegistry, NoAttribute, BadVertical, UnknownName, CorpusFull}
 use Rattle.mt_session_spec.specs.Files.{IsAbsent, IsTooLong, IsFile}

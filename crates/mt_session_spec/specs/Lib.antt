@@ -7,3 +7,4 @@ pub mod Counting
 pub mod Steps
 pub mod Replies
 pub mod Runs
+pub mod Laws

@@ -1,19 +1,18 @@
 -- What the replies to `text` and `add` mean.
-use Rattle.std.proofs.Common.{◌≡◌, ◌≢◌, ℕ, ◌<◌, ◌≤◌, ◌⊎◌, inl, inr, Bool, List, [], ◌∷◌, ◌++◌, length, arith, refl, sym, ◌∙◌, ap, subst, codes}
+use Rattle.std.proofs.Common.{◌≡◌, ◌≢◌, ℕ, ◌<◌, inl, Bool, List, [], ◌∷◌, ◌++◌, length, arith, refl, ◌∙◌, ap, subst, codes}
 use Rattle.std.specs.Fmt.{decimal}
 use Rattle.mt_text_spec.specs.Lines.{closed}
-use Rattle.mt_text_spec.specs.Words.{IsName}
 use Rattle.mt_text_spec.specs.Registries.{Registry, ValidRegistry}
 use Rattle.mt_text_spec.specs.Texts.{Text}
 use Rattle.mt_shelf_spec.specs.Files.{Files}
 use Rattle.mt_file_spec.specs.Vertical.{Vertical, FirstTextFault, TextCause}
 use Rattle.mt_vertical.proofs.OneText.{one_text, no_text_with_fault}
-use Rattle.mt_script_spec.specs.Commands.{Command, Text as TextCommand, Add, Quit}
+use Rattle.mt_script_spec.specs.Commands.{Text as TextCommand, Add, Quit}
 use Rattle.mt_session_spec.specs.World.{World, Held, Group, Holds, IsFull, alone}
 use Rattle.mt_session_spec.specs.Refusals.{Refusal, BadCommand, CutShort, RegistryLate, NameTaken, NoSuchFile, FileTooLong, BadRegistry, NoAttribute, BadVertical, UnknownName, CorpusFull, rank, failure_rank}
 use Rattle.mt_session_spec.specs.Files.{IsAbsent, IsTooLong, IsFile}
 use Rattle.mt_session_spec.specs.Adding.{RefusesText, RefusesAdd}
-use Rattle.mt_session_spec.specs.Steps.{Refuses, IsRefused, Fine, Declined, Accepted, IsBlocked, Loads}
+use Rattle.mt_session_spec.specs.Steps.{Fine, Declined, Accepted}
 use Rattle.mt_shell.specs.declared.session.Reply.{Reply}
 use Rattle.mt_shell.specs.declared.session.Reply.TheVariants.{Lines, Last, NoMemory}
 use Rattle.mt_shell.specs.Sessions.{Standing, held_of, with_files}

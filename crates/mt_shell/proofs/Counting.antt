@@ -1,23 +1,21 @@
 -- What the replies to `count` mean.
-use Rattle.std.proofs.Common.{◌≡◌, ◌≢◌, ℕ, suc, ◌+◌, ◌<◌, inl, List, [], ◌∷◌, ◌++◌, length, Option, None, Some, arith, refl, sym, ◌∙◌, ap, codes}
+use Rattle.std.proofs.Common.{◌≡◌, ◌≢◌, ℕ, ◌<◌, inl, List, [], ◌∷◌, ◌++◌, length, Some, arith, refl, ◌∙◌, ap, codes}
 use Rattle.std.specs.Prelude.{slice_get}
 use Rattle.std.specs.List.{Contains}
 use Rattle.std.specs.Fmt.{decimal}
-use Rattle.std.proofs.lemmas.Bool.{cases_lt}
 use Rattle.std.proofs.lemmas.Option.{get_or_from_slice_get, slice_get_within}
 use Rattle.std.proofs.lemmas.List.{length-map}
 use Rattle.mt_text_spec.specs.Lines.{closed}
 use Rattle.mt_text_spec.specs.Registries.{Attr, attr_names, column_of}
-use Rattle.mt_shelf_spec.specs.Files.{Files}
-use Rattle.mt_script_spec.specs.Commands.{Command, Asks, Count, Quit}
+use Rattle.mt_script_spec.specs.Commands.{Asks, Count, Quit}
 use Rattle.mt_session_spec.specs.World.{World, corpus_of}
 use Rattle.mt_session_spec.specs.Refusals.{Refusal, BadCommand, CutShort, RegistryLate, NameTaken, NoSuchFile, FileTooLong, BadRegistry, NoAttribute, BadVertical, UnknownName, CorpusFull, rank}
 use Rattle.mt_session_spec.specs.Counting.{IsLiteral, RefusesCount, occurrences}
-use Rattle.mt_session_spec.specs.Steps.{Fine, Accepted}
+use Rattle.mt_session_spec.specs.Steps.{Accepted}
 use Rattle.mt_shell.specs.declared.session.Reply.{Reply}
-use Rattle.mt_shell.specs.declared.session.Reply.TheVariants.{Lines, Last, NoMemory}
-use Rattle.mt_shell.specs.Sessions.{Standing, held_of, with_files}
-use Rattle.mt_shell.specs.Answers.{Answers, AnswersAlone, Declines}
+use Rattle.mt_shell.specs.declared.session.Reply.TheVariants.{Lines}
+use Rattle.mt_shell.specs.Sessions.{Standing, with_files}
+use Rattle.mt_shell.specs.Answers.{AnswersAlone, Declines}
 use Rattle.mt_shell.proofs.Meanings.{declines}
 use Rattle.mt_shell.proofs.Literals.{one_name}
 

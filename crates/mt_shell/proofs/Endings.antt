@@ -1,5 +1,5 @@
 -- How a run goes on and ends.
-use Rattle.std.proofs.Common.{◌≡◌, ◌≢◌, ℕ, ◌+◌, ◌-◌, ◌<◌, ◌≤◌, ◌⊎◌, inl, inr, true, false, List, [], ◌∷◌, ◌++◌, length, take, drop, Option, Some, arith, refl, sym, ◌∙◌, ap, append_assoc, append-nil, subst}
+use Rattle.std.proofs.Common.{◌≡◌, ◌≢◌, ℕ, ◌+◌, ◌<◌, ◌≤◌, ◌⊎◌, inl, inr, true, false, List, [], ◌∷◌, ◌++◌, length, take, drop, Option, Some, arith, refl, sym, ◌∙◌, ap, append_assoc, append-nil, subst}
 use Rattle.std.proofs.lemmas.Bool.{cases_lt}
 use Rattle.std.proofs.lemmas.Grind.{common_steps}
 use Rattle.std.proofs.lemmas.List.{take-append-drop, take-append-le}
@@ -8,11 +8,10 @@ use Rattle.mt_outside.specs.declared.sink.SinkError.TheVariants.{Failed, NoMemor
 use Rattle.std.proofs.lemmas.List.Elements.{All-nil}
 use Rattle.mt_outside.specs.Told.{Told, Takes}
 use Rattle.mt_outside.specs.Faults.{Rose, last_count}
-use Rattle.mt_shelf_spec.specs.Files.{Files}
 use Rattle.mt_script_spec.specs.Commands.{Quit}
-use Rattle.mt_script_spec.specs.Script.{Item, Given, Nothing, IsRest}
-use Rattle.mt_session_spec.specs.World.{World, Held, first_held, first_world}
-use Rattle.mt_session_spec.specs.Runs.{Outside, Seen, Leaves, script_limit, EndsWell, EndsWithFault, EndsTooLong, EndsInPart}
+use Rattle.mt_script_spec.specs.Script.{Given, Nothing, IsRest}
+use Rattle.mt_session_spec.specs.World.{Held, first_held, first_world}
+use Rattle.mt_session_spec.specs.Runs.{Outside, Seen, script_limit, EndsWell, EndsWithFault, EndsTooLong, EndsInPart}
 use Rattle.mt_script.proofs.Items.{then_begins}
 use Rattle.mt_shell.specs.declared.top.Status.{Status}
 use Rattle.mt_shell.specs.declared.top.Status.TheVariants.{Done, Usage, SourceFault, SinkFault, ScriptTooLong, NoMemory}

@@ -1,18 +1,15 @@
 -- A refused command changes nothing.
-use Rattle.std.proofs.Common.{◌≡◌, ◌≢◌, ◌⊎◌, ℕ, inl, inr, List, [], ◌∷◌, ◌++◌, Option, None, Some, refl, sym, ◌∙◌, ap, codes}
+use Rattle.std.proofs.Common.{◌≡◌, ◌⊎◌, ℕ, inl, inr, List, ◌∷◌, Option, Some, refl, sym, ◌∙◌, ap}
 use Rattle.std.specs.Prelude.{slice_get}
-use Rattle.std.specs.Fmt.{decimal}
-use Rattle.mt_text_spec.specs.Lines.{closed}
 use Rattle.mt_shelf_spec.specs.Files.{Files}
 use Rattle.mt_script_spec.specs.Commands as command
 use Rattle.mt_script_spec.specs.Commands.{Command, Ask}
 use Rattle.mt_session_spec.specs.World.{World}
-use Rattle.mt_session_spec.specs.Refusals.{ok_line}
 use Rattle.mt_session_spec.specs.Steps.{Fine, Declined, Accepted, Accepts}
 use Rattle.mt_shell.specs.declared.session.Reply.{Reply}
 use Rattle.mt_shell.specs.declared.session.Reply.TheVariants.{Lines, Last, NoMemory}
-use Rattle.mt_shell.specs.Sessions.{Standing, held_of, with_files}
-use Rattle.mt_shell.specs.Answers.{Answers, Stepped, Fails, KeepsRefused, IsRefusal}
+use Rattle.mt_shell.specs.Sessions.{Standing, with_files}
+use Rattle.mt_shell.specs.Answers.{Stepped, Fails, KeepsRefused, IsRefusal}
 
 -- replies that begin with `o` and `=`
 begins_with_o : (reply rest : List ℕ) → reply ≡ 111 ∷ rest → IsRefusal reply → ⊥
@@ -29,7 +26,7 @@ ask_says world new (command.Colloc attr first last least cql) reply a h = a
 ask_says world new (command.Sketch least most lemma) reply a h = a
 ask_says world new (command.Thes most lemma) reply a h = a
 
-accepted_says : (world new : World) (given : Command) (reply : List ℕ) → Accepts world given new reply → IsRefusal reply → ⊥
+pub accepted_says : (world new : World) (given : Command) (reply : List ℕ) → Accepts world given new reply → IsRefusal reply → ⊥
 accepted_says world new (command.Registry file) reply a h = begins_with_o reply _ a.says h
 accepted_says world new (command.Text name body) reply a h = begins_with_o reply _ a.says h
 accepted_says world new (command.Add name file) reply a h = begins_with_o reply _ (a.adds).says h

@@ -11,3 +11,4 @@ pub mod Talks
 pub mod Runs
 pub mod Endings
 pub mod Standard
+pub mod Failures

@@ -1,6 +1,6 @@
 -- A literal query is its ends, its sign, and the name and the value between them.
-use Rattle.std.proofs.Common.{refl, ◌≡◌, ℕ, ◌+◌, ◌-◌, ◌<◌, ◌≤◌, ◌==◌, Bool, List, [], ◌∷◌, ◌++◌, length, take, drop, get_or, true, false, nat_eq, sym, ◌∙◌, ap, arith, codes, append_assoc, Option, None, Some, MatchOption}
-use Rattle.std.specs.List.{All, AllPass, slice_split}
+use Rattle.std.proofs.Common.{refl, ◌≡◌, ℕ, ◌+◌, ◌-◌, ◌<◌, ◌≤◌, ◌==◌, Bool, List, [], ◌∷◌, ◌++◌, length, take, drop, get_or, true, false, nat_eq, sym, ◌∙◌, ap, arith}
+use Rattle.std.specs.List.{AllPass, slice_split}
 use Rattle.std.specs.Str.{IsUtf8}
 use Rattle.std.specs.Cmp.Lexicographic.{pointwise}
 use Rattle.std.proofs.lemmas.Bool.{false_from_ne_true}

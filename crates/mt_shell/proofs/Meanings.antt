@@ -1,24 +1,18 @@
 -- What a session's replies mean.
-use Rattle.std.proofs.Common.{◌≡◌, ◌≢◌, ℕ, ◌+◌, ◌<◌, ◌≤◌, ◌⊎◌, inl, inr, List, [], ◌∷◌, ◌++◌, length, Option, None, Some, arith, refl, sym, ◌∙◌, ap, subst, codes, IsTrue, false, append-nil}
-use Rattle.std.specs.List.{Contains}
-use Rattle.mt_text_spec.specs.Registries.{Registry}
-use Rattle.mt_text_spec.specs.Texts.{Text}
+use Rattle.std.proofs.Common.{◌≡◌, ◌≢◌, ℕ, ◌<◌, ◌≤◌, inl, inr, List, [], ◌∷◌, ◌++◌, length, Option, None, Some, arith, refl, sym, ◌∙◌, IsTrue, false, append-nil}
 use Rattle.mt_shelf_spec.specs.Files.{Files, no_files}
-use Rattle.mt_file_spec.specs.Vertical.{Vertical}
-use Rattle.mt_script_spec.specs.Commands.{Command, Text as TextCommand, Registry as RegistryCommand, Add, Quit}
-use Rattle.mt_session_spec.specs.World.{World, Holds}
-use Rattle.mt_session_spec.specs.Refusals.{Refusal, BadCommand, CutShort, RegistryLate, NameTaken, NoSuchFile, FileTooLong, BadRegistry, NoAttribute, BadVertical, UnknownName, CorpusFull, rank, failure_rank}
+use Rattle.mt_script_spec.specs.Commands.{Command, Quit}
+use Rattle.mt_session_spec.specs.World.{World}
+use Rattle.mt_session_spec.specs.Refusals.{Refusal, rank, failure_rank}
 use Rattle.mt_session_spec.specs.Files.{IsAbsent, IsTooLong, IsFile, file_limit}
-use Rattle.mt_session_spec.specs.Registering.{IsLate}
-use Rattle.mt_session_spec.specs.Steps.{Refuses, IsRefused, Fine, Declined, Accepted, IsBlocked, Loads}
+use Rattle.mt_session_spec.specs.Steps.{Refuses, IsRefused, Declined, Loads}
 use Rattle.mt_shell.specs.declared.session.Reply.{Reply}
 use Rattle.mt_shell.specs.declared.session.Reply.TheVariants.{Lines, Last, NoMemory}
 use Rattle.mt_shell.specs.declared.fetch.Fetched.{Fetched}
-use Rattle.mt_shell.specs.declared.fetch.Fetched.TheVariants.{Whole, Absent, TooLong, Failed, NoMemory as NoRoom}
 use Rattle.mt_shell.specs.Sights.{Sees}
-use Rattle.mt_shell.specs.Sessions.{Standing, held_of, with_files}
+use Rattle.mt_shell.specs.Sessions.{Standing, with_files}
 use Rattle.mt_shell.specs.Fetches.{Finds, failures}
-use Rattle.mt_shell.specs.Answers.{Answers, AnswersAlone, Stepped, Fails, Declines, TellsFailure}
+use Rattle.mt_shell.specs.Answers.{Answers, AnswersAlone, Stepped, Declines, TellsFailure}
 
 pub not_true : IsTrue false → ⊥
 not_true h = cc

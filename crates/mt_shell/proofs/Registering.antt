@@ -1,14 +1,14 @@
 -- What the replies to `registry` mean.
-use Rattle.std.proofs.Common.{◌≡◌, ◌≢◌, ℕ, ◌<◌, ◌≤◌, inl, inr, List, [], ◌∷◌, length, arith, refl, sym, ◌∙◌, ap, subst}
+use Rattle.std.proofs.Common.{◌≡◌, ◌≢◌, ℕ, ◌<◌, inl, List, [], ◌∷◌, arith, refl, ◌∙◌, ap}
 use Rattle.mt_text_spec.specs.Registries.{Registry, base_count}
 use Rattle.mt_shelf_spec.specs.Files.{Files}
 use Rattle.mt_file_spec.specs.RegistryFile.{ReadsRegistry as Reads, FirstRegistryFault, LacksBase, RegistryCause}
-use Rattle.mt_script_spec.specs.Commands.{Command, Registry as RegistryCommand, Quit}
+use Rattle.mt_script_spec.specs.Commands.{Registry as RegistryCommand, Quit}
 use Rattle.mt_session_spec.specs.World.{World, Held}
 use Rattle.mt_session_spec.specs.Refusals.{Refusal, BadCommand, CutShort, RegistryLate, NameTaken, NoSuchFile, FileTooLong, BadRegistry, NoAttribute, BadVertical, UnknownName, CorpusFull, rank, failure_rank}
 use Rattle.mt_session_spec.specs.Files.{IsAbsent, IsTooLong, IsFile}
-use Rattle.mt_session_spec.specs.Registering.{mapper_names, IsLate, RefusesRegistry, with_registry}
-use Rattle.mt_session_spec.specs.Steps.{Refuses, IsRefused, Fine, Declined, Accepted, IsBlocked, Loads}
+use Rattle.mt_session_spec.specs.Registering.{mapper_names, IsLate, RefusesRegistry}
+use Rattle.mt_session_spec.specs.Steps.{Fine, Declined, Accepted}
 use Rattle.mt_shell.specs.declared.session.Reply.{Reply}
 use Rattle.mt_shell.specs.declared.session.Reply.TheVariants.{Lines, Last, NoMemory}
 use Rattle.mt_shell.specs.Sessions.{Standing, held_of, with_files}

@@ -1,6 +1,5 @@
 -- Parts of a run, one after another.
 use Rattle.std.proofs.Common.{◌≡◌, ◌≢◌, ℕ, suc, ◌+◌, ◌-◌, ◌<◌, ◌≤◌, inl, inr, Bool, true, false, List, [], ◌∷◌, ◌++◌, length, take, Option, Some, None, arith, refl, sym, ◌∙◌, ap, append_assoc, append-nil, length-append, subst, MatchOption}
-use Rattle.std.specs.List.{All}
 use Rattle.std.proofs.lemmas.Grind.{common_steps}
 use Rattle.std.proofs.lemmas.List.Elements.{All-append, All-take, All-nil, All-cons}
 use Rattle.mt_shelf_spec.specs.Files.{Files}
@@ -15,7 +14,6 @@ use Rattle.mt_script.specs.declared.command.Next.{Next}
 use Rattle.mt_script.specs.declared.command.Next.TheVariants.{Command as NextCommand, Bad as NextBad, CutShort as NextCutShort, More as NextMore, End as NextEnd, NoMemory as NextNoMemory}
 use Rattle.mt_script.specs.Scans.{Gives}
 use Rattle.mt_script.proofs.Items.{then_begins}
-use Rattle.mt_shell.specs.declared.talk.Flow.TheVariants.{On, Over}
 use Rattle.mt_shell.specs.Reads.{IsTold, Tells, within, Replied, RepliedInPart, Progress, ProgressToQuit, ProgressInPart, item_of, IsSaidNext, IsLast}
 
 -- ## What is outside

@@ -1,11 +1,11 @@
 -- The standard registry is valid.
-use Rattle.std.proofs.Common.{◌≡◌, ◌≢◌, ℕ, ◌<◌, ◌≤◌, true, List, [], ◌∷◌, length, codes, None, Some, arith, refl, ap, get_or}
-use Rattle.std.specs.List.{All, AllPass, AllPairs}
+use Rattle.std.proofs.Common.{◌≡◌, ◌≢◌, ℕ, List, [], ◌∷◌, codes, arith, refl, ap, get_or}
+use Rattle.std.specs.List.{AllPairs}
 use Rattle.std.proofs.lemmas.List.Elements.{All-nil, All-cons}
 use Rattle.std.proofs.lemmas.List.Kept.{AllPairs-cons}
 use Rattle.std.proofs.lemmas.List.Sums.{AllPass-from_list_all}
 use Rattle.mt_text_spec.specs.Words.{IsIdentifier, is_identifier_byte}
-use Rattle.mt_text_spec.specs.Registries.{Attr, Kind, ValidRegistry, ValidAttr, ValidKind, AreDistinct, base_attr, standard_registry}
+use Rattle.mt_text_spec.specs.Registries.{Attr, ValidRegistry, ValidAttr, ValidKind, AreDistinct, base_attr, standard_registry}
 
 none_differ : AllPairs (λ (name other : List ℕ). name ≢ other) []
 none_differ = λ i j x y h. absurd (omega arith)

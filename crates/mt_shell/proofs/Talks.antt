@@ -1,20 +1,20 @@
 -- What a talk has answered.
-use Rattle.std.proofs.Common.{◌≡◌, ◌≢◌, ℕ, inl, inr, List, [], ◌∷◌, ◌++◌, Option, Some, Result, Ok, Err, OnErr, IfOk, refl, sym, ◌∙◌, ap, subst, append-nil, ◌⊎◌}
+use Rattle.std.proofs.Common.{◌≡◌, ℕ, inl, inr, List, [], ◌++◌, Option, Some, Result, Ok, Err, OnErr, IfOk, sym, ◌∙◌, ap, subst, append-nil, ◌⊎◌}
 use Rattle.mt_shelf_spec.specs.Files.{Files}
-use Rattle.mt_script_spec.specs.Commands.{Command, Quit}
+use Rattle.mt_script_spec.specs.Commands.{Command}
 use Rattle.mt_script_spec.specs.Script.{Item, Given}
 use Rattle.mt_session_spec.specs.World.{World, Held}
 use Rattle.mt_session_spec.specs.Refusals.{no_memory_line}
 use Rattle.mt_session_spec.specs.Steps.{Step, Meant, Starved, Blocked, Fine}
 use Rattle.mt_session_spec.specs.Replies.{ItemStep}
-use Rattle.mt_session_spec.specs.Runs.{Outside, Seen, Leaves}
+use Rattle.mt_session_spec.specs.Runs.{Outside}
 use Rattle.mt_outside.specs.declared.sink.SinkError.{SinkError}
 use Rattle.mt_shell.specs.declared.talk.Flow.{Flow}
 use Rattle.mt_shell.specs.declared.session.Reply.{Reply}
 use Rattle.mt_shell.specs.declared.session.Reply.TheVariants.{Lines, Last, NoMemory}
 use Rattle.mt_shell.specs.Sessions.{Standing, held_of, with_files}
 use Rattle.mt_shell.specs.Answers.{Answers, Stepped, Fails}
-use Rattle.mt_shell.specs.Reads.{seen, IsTold, Tells, within, Replied, RepliedInPart, WroteFront, Flows}
+use Rattle.mt_shell.specs.Reads.{seen, IsTold, within, Replied, RepliedInPart, WroteFront, Flows}
 
 -- a fact that holds holds after an error
 pub always : {T E : Type 0} → (r : Result T E) → {P : Type 0} → P → OnErr r P

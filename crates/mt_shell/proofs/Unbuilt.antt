@@ -1,5 +1,5 @@
 -- What the replies to commands mean that are not built yet, and that to `quit`.
-use Rattle.std.proofs.Common.{◌≡◌, ◌≢◌, ℕ, ◌<◌, List, [], ◌∷◌, arith, refl}
+use Rattle.std.proofs.Common.{◌≡◌, ◌≢◌, ℕ, List, [], arith, refl}
 use Rattle.mt_script_spec.specs.Commands.{Command, Asks, Quit}
 use Rattle.mt_session_spec.specs.World.{World}
 use Rattle.mt_session_spec.specs.Refusals.{BadCommand}

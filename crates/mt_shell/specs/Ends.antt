@@ -1,5 +1,5 @@
 -- What is known of a run at its end, by its status.
-use Rattle.std.specs.Prelude.{ℕ, ◌≡◌, ◌<◌, ◌≤◌, ◌⊎◌, true, false, List, [], ◌++◌, length, Option, Some}
+use Rattle.std.specs.Prelude.{ℕ, ◌≡◌, ◌<◌, ◌⊎◌, true, false, List, [], ◌++◌, length, Option, Some}
 use Rattle.mt_outside.specs.Faults.{Rose}
 use Rattle.mt_session_spec.specs.World.{Held, first_held}
 use Rattle.mt_session_spec.specs.Runs.{Outside, Seen, script_limit, EndsWell, EndsWithFault, EndsTooLong, EndsInPart}

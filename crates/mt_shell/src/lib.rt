@@ -4,6 +4,7 @@
 mod cause;
 mod corpus;
 mod fetch;
+mod laws;
 mod literal;
 mod reading;
 mod refusal;
@@ -12,5 +13,6 @@ mod talk;
 mod top;
 mod writes;
 
+pub use laws::failures_are_gained;
 pub use session::{Reply, Session};
 pub use top::{Status, run};

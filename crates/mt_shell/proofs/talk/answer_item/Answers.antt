@@ -1,4 +1,4 @@
-use Rattle.std.proofs.Common.{[], refl, ap, ◌∙◌}
+use Rattle.std.proofs.Common.{refl, ap}
 use Rattle.std.proofs.lemmas.Result.{on_err_weaker, IfOk-weaker}
 use Rattle.mt_script_spec.specs.Script.{Given, Bad, CutShort}
 use Rattle.mt_session_spec.specs.Refusals.{refusal_line, BadCommand, CutShort as CutShortRefusal}

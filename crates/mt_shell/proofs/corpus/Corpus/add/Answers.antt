@@ -1,5 +1,5 @@
 use Rattle.std.proofs.Common.{◌∙◌, sym, ap, ◌+◌}
-use Rattle.mt_shell.proofs.Corpora.{one_text_more, one_group_more, sum_fits}
+use Rattle.mt_shell.proofs.Corpora.{one_text_more}
 use Rattle.mt_shell.proofs.corpus.Corpus.add.Goals as goal
 
 pub invariant_of-self-in-Ok : goal.invariant_of-self-in-Ok

@@ -1,4 +1,4 @@
-use Rattle.std.proofs.Common.{sym, refl, arith}
+use Rattle.std.proofs.Common.{sym, arith}
 use Rattle.mt_shell.proofs.Corpora.{many_are_full, is_le, tokens_decide}
 use Rattle.mt_shell.proofs.corpus.Corpus.is_full.Goals as goal
 

@@ -1,4 +1,4 @@
-use Rattle.mt_shell.proofs.Adding.{add_absent, add_too_long, add_failed, add_whole}
+use Rattle.mt_shell.proofs.Adding.{add_absent, add_too_long, add_whole}
 use Rattle.mt_shell.proofs.session.Session.take_file.Goals as goal
 
 pub returns-in-Whole : goal.returns-in-Whole

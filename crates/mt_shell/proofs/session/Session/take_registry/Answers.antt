@@ -1,4 +1,4 @@
-use Rattle.mt_shell.proofs.Registering.{absent, too_long, failed_at, whole}
+use Rattle.mt_shell.proofs.Registering.{absent, too_long, whole}
 use Rattle.mt_shell.proofs.session.Session.take_registry.Goals as goal
 
 pub returns-in-Whole : goal.returns-in-Whole

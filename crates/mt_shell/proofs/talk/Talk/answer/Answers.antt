@@ -1,5 +1,4 @@
-use Rattle.std.proofs.Common.{[], arith, refl, ◌∙◌, IfOk, Ok}
-use Rattle.std.proofs.lemmas.Result.{IfOk-at_ok}
+use Rattle.std.proofs.Common.{[], arith, refl, ◌∙◌}
 use Rattle.mt_shell.specs.Sessions.{held_of}
 use Rattle.mt_shell.specs.Reads.{seen, Tells, ProgressInPart, item_of}
 use Rattle.mt_shell.proofs.Talks.{always}

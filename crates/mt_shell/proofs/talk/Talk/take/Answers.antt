@@ -1,5 +1,4 @@
-use Rattle.std.proofs.Common.{[], ◌++◌, refl}
-use Rattle.mt_script_spec.specs.Script.{Nothing}
+use Rattle.std.proofs.Common.{◌++◌}
 use Rattle.mt_shell.specs.Sessions.{held_of}
 use Rattle.mt_shell.proofs.Runs.{nothing_done}
 use Rattle.mt_shell.proofs.talk.Talk.take.Goals as goal
