@@ -4,29 +4,28 @@ use Rattle.std.specs.Prelude.{ℕ, ◌≡◌, ◌-◌, ◌≤◌, ◌⊎◌, Boo
 use Rattle.mt_script_spec.specs.Commands.{Quit}
 use Rattle.mt_script_spec.specs.Script.{Item, Given, Items, Begins}
 use Rattle.mt_shelf_spec.specs.Files.{Files}
-use Rattle.mt_session_spec.specs.World.{World, first_world}
-use Rattle.mt_session_spec.specs.Replies.{Replies, NoQuit}
+use Rattle.mt_session_spec.specs.Replies.{Known, first_known, Replies, NoQuit}
 
 -- the most bytes of a script
 abbrev pub script_limit : ℕ
 script_limit = 268435456
 
--- what the sink holds, the files that the shelf keeps, and the names at which calls of the shelf failed
+-- what the sink holds, the files that the shelf keeps where it tells them, and the names at which calls of the shelf failed
 pub record Outside : Type 0 where
   pub written : List ℕ
-  pub files : Files
+  pub files : Option Files
   pub failed : List (List ℕ)
 
--- the same, where sink and shelf tell it
+-- the same, where the sink tells it
 pub record Seen : Type 0 where
   pub written : Option (List ℕ)
   pub files : Option Files
   pub failed : List (List ℕ)
 
--- so many bytes were written more, the shelf keeps these files, and its calls failed at these names more
-pub record Leaves (start : Outside) (output : List ℕ) (stored : Files) (gained : List (List ℕ)) (end : Seen) : Type 0 where
+-- these bytes were written more, the shelf tells these files, and its calls failed at these names more
+pub record Leaves (start : Outside) (output : List ℕ) (stored : Option Files) (gained : List (List ℕ)) (end : Seen) : Type 0 where
   pub written : end.written ≡ Some (start.written ++ output)
-  pub files : end.files ≡ Some stored
+  pub files : end.files ≡ stored
   pub failed : end.failed ≡ start.failed ++ gained
 
 -- all whole items of these bytes are answered, and none is a `quit`
@@ -35,10 +34,10 @@ pub record Answered (ended : Bool) (bytes : List ℕ) (start : Outside) (end : S
   pub rest : List ℕ
   pub failed : List (List ℕ)
   pub output : List ℕ
-  pub last : World
+  pub last : Known
   pub read : Items ended bytes items rest
   pub no_quit : NoQuit items
-  pub replies : Replies items (first_world start.files) failed output last
+  pub replies : Replies items (first_known start.files) failed output last
   pub leaves : Leaves start output last.files failed end
 
 -- the items of these bytes up to their first `quit` are answered, that too
@@ -47,10 +46,10 @@ pub record AnsweredToQuit (ended : Bool) (bytes : List ℕ) (start : Outside) (e
   pub others : List ℕ
   pub failed : List (List ℕ)
   pub output : List ℕ
-  pub last : World
+  pub last : Known
   pub read : Begins ended bytes (items ++ Given Quit ∷ []) others
   pub no_quit : NoQuit items
-  pub replies : Replies (items ++ Given Quit ∷ []) (first_world start.files) failed output last
+  pub replies : Replies (items ++ Given Quit ∷ []) (first_known start.files) failed output last
   pub leaves : Leaves start output last.files failed end
 
 -- the output is a front of the replies to the first items of these bytes, of which none before the last is a `quit`
@@ -60,10 +59,10 @@ pub record AnsweredInPart (ended : Bool) (bytes : List ℕ) (start : Outside) (e
   pub failed : List (List ℕ)
   pub output : List ℕ
   pub unwritten : List ℕ
-  pub last : World
+  pub last : Known
   pub read : Begins ended bytes items others
   pub no_quit : NoQuit (take (length items - 1) items)
-  pub replies : Replies items (first_world start.files) failed (output ++ unwritten) last
+  pub replies : Replies items (first_known start.files) failed (output ++ unwritten) last
   pub leaves : Leaves start output last.files failed end
 
 -- The source was read to its end, and all is answered.

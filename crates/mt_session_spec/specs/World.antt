@@ -25,9 +25,6 @@ pub record World : Type 0 where
 abbrev pub first_held : Held
 first_held = record { registry = standard_registry; accepted = false; grammar = None; groups = [] }
 
-abbrev pub first_world : Files → World
-first_world files = record { held = first_held; files = files }
-
 -- ## The corpus
 
 abbrev pub live_texts : Group → List Text

@@ -10,7 +10,8 @@ use Rattle.mt_outside.specs.Told.{Told, Takes}
 use Rattle.mt_outside.specs.Faults.{Rose, last_count}
 use Rattle.mt_script_spec.specs.Commands.{Quit}
 use Rattle.mt_script_spec.specs.Script.{Given, Nothing, IsRest}
-use Rattle.mt_session_spec.specs.World.{Held, first_held, first_world}
+use Rattle.mt_session_spec.specs.World.{Held, first_held}
+use Rattle.mt_session_spec.specs.Replies.{first_known}
 use Rattle.mt_session_spec.specs.Runs.{Outside, Seen, script_limit, EndsWell, EndsWithFault, EndsTooLong, EndsInPart}
 use Rattle.mt_script.proofs.Items.{then_begins}
 use Rattle.mt_shell.specs.declared.top.Status.{Status}
@@ -342,7 +343,7 @@ untold_start input left start at l t = record {
   rest = l;
   whole = λ no. cc;
   short = omega arith;
-  answered = record { items = []; others = []; failed = []; output = []; unwritten = []; last = first_world start.files; read = Nothing []; no_quit = none_quits; replies = (refl, refl, refl); leaves = nothing_yet start at t };
+  answered = record { items = []; others = []; failed = []; output = []; unwritten = []; last = first_known start.files; read = Nothing []; no_quit = none_quits; replies = (refl, refl, refl); leaves = nothing_yet start at t };
 }
 
 pub complete_by : (status : Status) (input : List ℕ) (source source' sink sink' : ℕ) → HasCause status source source' sink sink' → HasLength status input → (Rose source source' → ⊥) →

@@ -12,7 +12,7 @@ use Rattle.mt_session_spec.specs.World.{World}
 use Rattle.mt_session_spec.specs.Refusals as refusal
 use Rattle.mt_session_spec.specs.Refusals.{Refusal, refusal_line, failure_line, no_memory_line}
 use Rattle.mt_session_spec.specs.Steps.{Fine, Declined, Accepted, Step, Meant, Starved, Blocked}
-use Rattle.mt_session_spec.specs.Replies.{ItemStep, Replies}
+use Rattle.mt_session_spec.specs.Replies.{ItemStep, Known, Replies}
 use Rattle.mt_session_spec.specs.Laws.{replies_in}
 use Rattle.mt_shell.proofs.Keeping.{accepted_says}
 
@@ -89,13 +89,13 @@ one_by true reply file here e tells =
     one_there file here there.0 there.1 there.2
 one_by false reply file here e tells = omega arith
 
-pub failures : (items : List Item) (world : World) (failed : List (List ℕ)) (output : List ℕ) (last : World) (r : Replies items world failed output last) (file : List ℕ) →
-    count_by (λ reply. bytes_eq reply (failure_line file)) (replies_in items world failed output last r) ≤ count_by (λ name. bytes_eq name file) failed
-failures [] world failed output last r file = omega arith
-failures (item ∷ items) world failed output last r file =
+pub failures : (items : List Item) (known : Known) (failed : List (List ℕ)) (output : List ℕ) (last : Known) (r : Replies items known failed output last) (file : List ℕ) →
+    count_by (λ reply. bytes_eq reply (failure_line file)) (replies_in items known failed output last r) ≤ count_by (λ name. bytes_eq name file) failed
+failures [] known failed output last r file = omega arith
+failures (item ∷ items) known failed output last r file =
     let rest = replies_in items r.0 r.2 r.4 last r.8 in
     let head : cond (bytes_eq r.3 (failure_line file)) 1 0 ≤ count_by (λ name. bytes_eq name file) r.1 =
-    one_by (bytes_eq r.3 (failure_line file)) r.3 file r.1 refl (item_tells world r.0 item r.1 r.3 file r.5) in
+    one_by (bytes_eq r.3 (failure_line file)) r.3 file r.1 refl (item_tells r.5.world r.5.new item r.1 r.3 file r.5.step) in
     let others : count_by (λ reply. bytes_eq reply (failure_line file)) rest ≤ count_by (λ name. bytes_eq name file) r.2 = failures items r.0 r.2 r.4 last r.8 file in
     let split : count_by (λ name. bytes_eq name file) failed ≡ count_by (λ name. bytes_eq name file) r.1 + count_by (λ name. bytes_eq name file) r.2 =
     ap (λ (names : List (List ℕ)). count_by (λ name. bytes_eq name file) names) r.6 ∙ sum_by-append (λ (name : List ℕ). cond (bytes_eq name file) 1 0) r.1 r.2 in

@@ -5,28 +5,31 @@ use Rattle.std.proofs.lemmas.List.Elements.{All-append, All-take, All-nil, All-c
 use Rattle.mt_shelf_spec.specs.Files.{Files}
 use Rattle.mt_script_spec.specs.Commands.{Command, Quit}
 use Rattle.mt_script_spec.specs.Script.{Item, Given, Bad, CutShort, ClosedLine, FirstLine, Body, Whole, Commanded, Refused, Broken, Begins, Nothing, Skips, Then, IsRest}
-use Rattle.mt_session_spec.specs.World.{World, Held}
+use Rattle.mt_session_spec.specs.World.{Held}
 use Rattle.mt_session_spec.specs.Steps.{IsSaid}
-use Rattle.mt_session_spec.specs.Replies.{ItemStep, Replies, NoQuit}
+use Rattle.mt_session_spec.specs.Replies.{Known, KnownStep, Replies, NoQuit}
 use Rattle.mt_session_spec.specs.Runs.{Outside, Seen, Leaves}
 use Rattle.mt_script.specs.Seen.{command_of}
 use Rattle.mt_script.specs.declared.command.Next.{Next}
 use Rattle.mt_script.specs.declared.command.Next.TheVariants.{Command as NextCommand, Bad as NextBad, CutShort as NextCutShort, More as NextMore, End as NextEnd, NoMemory as NextNoMemory}
 use Rattle.mt_script.specs.Scans.{Gives}
 use Rattle.mt_script.proofs.Items.{then_begins}
-use Rattle.mt_shell.specs.Reads.{IsTold, Tells, within, Replied, RepliedInPart, Progress, ProgressToQuit, ProgressInPart, item_of, IsSaidNext, IsLast}
+use Rattle.mt_shell.specs.Reads.{seen, outside, IsTold, Tells, within, Replied, RepliedInPart, Progress, ProgressToQuit, ProgressInPart, item_of, IsSaidNext, IsLast}
 
 -- ## What is outside
 
 -- what is outside after so much
-abbrev pub moved : Outside → List ℕ → Files → List (List ℕ) → Outside
+abbrev pub moved : Outside → List ℕ → Option Files → List (List ℕ) → Outside
 moved start output stored gained = record { written = start.written ++ output; files = stored; failed = start.failed ++ gained }
 
-pub told_after : (start : Outside) (output : List ℕ) (stored : Files) (gained : List (List ℕ)) (end : Seen) → Leaves start output stored gained end → IsTold end (moved start output stored gained)
+pub told_now : (held : Option (List ℕ)) (files : Option Files) (failed : List (List ℕ)) (written : List ℕ) → held ≡ Some written → IsTold (seen held files failed) (outside written files failed)
+told_now held files failed written e = record { written = e; files = refl; failed = refl }
+
+pub told_after : (start : Outside) (output : List ℕ) (stored : Option Files) (gained : List (List ℕ)) (end : Seen) → Leaves start output stored gained end → IsTold end (moved start output stored gained)
 told_after start output stored gained end l = record { written = l.written; files = l.files; failed = l.failed }
 
 -- one thing after another
-pub later : (start : Outside) (output : List ℕ) (stored : Files) (gained : List (List ℕ)) (more : List ℕ) (files : Files) (failed : List (List ℕ)) (end : Seen) →
+pub later : (start : Outside) (output : List ℕ) (stored : Option Files) (gained : List (List ℕ)) (more : List ℕ) (files : Option Files) (failed : List (List ℕ)) (end : Seen) →
     Leaves (moved start output stored gained) more files failed end → Leaves start (output ++ more) files (gained ++ failed) end
 later start output stored gained more files failed end l = record {
   written = rw (l.written, append_assoc) refl;
@@ -69,12 +72,12 @@ one_before_last item = none_quits
 -- ## Replies
 
 -- the replies to items, and then to others
-pub joined : (xs ys : List Item) (old mid new : World) (f g : List (List ℕ)) (o p : List ℕ) → Replies xs old f o mid → Replies ys mid g p new → Replies (xs ++ ys) old (f ++ g) (o ++ p) new
+pub joined : (xs ys : List Item) (old mid new : Known) (f g : List (List ℕ)) (o p : List ℕ) → Replies xs old f o mid → Replies ys mid g p new → Replies (xs ++ ys) old (f ++ g) (o ++ p) new
 joined [] ys old mid new f g o p r s = rw (r.0, r.1, ← r.2) s
 joined (x ∷ xs) ys old mid new f g o p r s =
     (r.0, r.1, r.2 ++ g, r.3, r.4 ++ p, r.5, rw (r.6, append_assoc) refl, rw (r.7, append_assoc) refl, joined xs ys r.0 mid new r.2 g r.4 p r.8 s)
 
-one_reply : (item : Item) (old new : World) (failed : List (List ℕ)) (reply : List ℕ) → ItemStep old item failed new reply → Replies (item ∷ []) old failed reply new
+one_reply : (item : Item) (old new : Known) (failed : List (List ℕ)) (reply : List ℕ) → KnownStep old item failed new reply → Replies (item ∷ []) old failed reply new
 one_reply item old new failed reply s = (new, failed, [], reply, [], s, sym (append-nil failed), sym (append-nil reply), (refl, refl, refl))
 
 -- ## Progress

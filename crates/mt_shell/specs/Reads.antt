@@ -3,9 +3,9 @@ use Rattle.std.specs.Prelude.{ℕ, ◌≡◌, ◌≢◌, ◌-◌, Bool, List, []
 use Rattle.mt_shelf_spec.specs.Files.{Files}
 use Rattle.mt_script_spec.specs.Commands.{Quit}
 use Rattle.mt_script_spec.specs.Script.{Item, Given, Bad, CutShort, Begins}
-use Rattle.mt_session_spec.specs.World.{Held, World}
+use Rattle.mt_session_spec.specs.World.{Held}
 use Rattle.mt_session_spec.specs.Steps.{IsSaid}
-use Rattle.mt_session_spec.specs.Replies.{ItemStep, Replies, NoQuit}
+use Rattle.mt_session_spec.specs.Replies.{Known, KnownStep, Replies, NoQuit}
 use Rattle.mt_session_spec.specs.Runs.{Outside, Seen, Leaves}
 use Rattle.mt_script.specs.Seen.{command_of}
 use Rattle.mt_script.specs.declared.command.Next.{Next}
@@ -18,18 +18,21 @@ use Rattle.mt_shell.specs.declared.talk.Flow.TheVariants.{On, Over}
 abbrev pub seen : Option (List ℕ) → Option Files → List (List ℕ) → Seen
 seen written files failed = record { written = written; files = files; failed = failed }
 
--- it is told that this is outside
+abbrev pub outside : List ℕ → Option Files → List (List ℕ) → Outside
+outside written files failed = record { written = written; files = files; failed = failed }
+
+-- the sink tells that this is outside
 pub record IsTold (at : Seen) (start : Outside) : Type 0 where
   pub written : at.written ≡ Some start.written
-  pub files : at.files ≡ Some start.files
+  pub files : at.files ≡ start.files
   pub failed : at.failed ≡ start.failed
 
--- what holds of what is outside, where it is told
+-- what holds of what is outside, where the sink tells it
 abbrev pub Tells : Seen → (Outside → Type 0) → Type 0
 Tells at P = (start : Outside) → IsTold at start → P start
 
--- the world of what is held and what is outside
-abbrev pub within : Held → Outside → World
+-- what is known of the world by what is held and what is outside
+abbrev pub within : Held → Outside → Known
 within held start = record { held = held; files = start.files }
 
 -- ## Items
@@ -38,17 +41,17 @@ within held start = record { held = held; files = start.files }
 pub record Replied (old : Held) (item : Item) (new : Held) (start : Outside) (end : Seen) : Type 0 where
   pub reply : List ℕ
   pub failed : List (List ℕ)
-  pub stored : Files
-  pub step : ItemStep (within old start) item failed (record { held = new; files = stored }) reply
+  pub stored : Option Files
+  pub step : KnownStep (within old start) item failed (record { held = new; files = stored }) reply
   pub leaves : Leaves start reply stored failed end
 
 -- One item was answered in part: the bytes that the sink holds went on with a front of its reply.
 pub record RepliedInPart (old : Held) (item : Item) (start : Outside) (end : Seen) : Type 0 where
-  pub new : World
+  pub new : Known
   pub front : List ℕ
   pub unwritten : List ℕ
   pub failed : List (List ℕ)
-  pub step : ItemStep (within old start) item failed new (front ++ unwritten)
+  pub step : KnownStep (within old start) item failed new (front ++ unwritten)
   pub leaves : Leaves start front new.files failed end
 
 -- From the bytes that waited these items were taken and answered, none of them a `quit`, and the others wait.
@@ -56,7 +59,7 @@ pub record Progress (ended : Bool) (bytes still : List ℕ) (old new : Held) (st
   pub items : List Item
   pub failed : List (List ℕ)
   pub output : List ℕ
-  pub stored : Files
+  pub stored : Option Files
   pub taken : Begins ended bytes items still
   pub no_quit : NoQuit items
   pub replies : Replies items (within old start) failed output (record { held = new; files = stored })
@@ -68,7 +71,7 @@ pub record ProgressToQuit (ended : Bool) (bytes : List ℕ) (old : Held) (start 
   pub others : List ℕ
   pub failed : List (List ℕ)
   pub output : List ℕ
-  pub last : World
+  pub last : Known
   pub taken : Begins ended bytes (items ++ Given Quit ∷ []) others
   pub no_quit : NoQuit items
   pub replies : Replies (items ++ Given Quit ∷ []) (within old start) failed output last
@@ -81,7 +84,7 @@ pub record ProgressInPart (ended : Bool) (bytes : List ℕ) (old : Held) (start 
   pub failed : List (List ℕ)
   pub output : List ℕ
   pub unwritten : List ℕ
-  pub last : World
+  pub last : Known
   pub taken : Begins ended bytes items others
   pub no_quit : NoQuit (take (length items - 1) items)
   pub replies : Replies items (within old start) failed (output ++ unwritten) last

@@ -6,7 +6,7 @@ ghost use Rattle.mt_outside.specs.Faults.{Rose};
 ghost use Rattle.mt_session_spec.specs.Runs.{script_limit, EndsWell, EndsWithFault, EndsTooLong, EndsInPart};
 ghost use Rattle.mt_session_spec.specs.World.{first_held};
 ghost use Rattle.mt_shell.specs.Sessions.{held_of};
-ghost use Rattle.mt_shell.specs.Reads.{seen, Tells};
+ghost use Rattle.mt_shell.specs.Reads.{seen, outside, Tells};
 ghost use Rattle.mt_shell.specs.Words.{AreGood};
 ghost use Rattle.mt_shell.specs.Ends.{EndsAs, HasCause, HasLength, FinishesAs, FinishCause};
 
@@ -47,24 +47,24 @@ pub fn run<S: Source, K: Sink, F: Shelf>(
     sink: &mut K,
     shelf: &mut F,
 ) -> Status
-    // What is written is the replies to what is read, and the shelf has the files of the last world.
-    ensures done { result ≡ Status.Done → Told (S.left source.old) (λ input. Tells (seen (K.held sink.old) (F.files shelf.old) (F.failed shelf.old)) (λ start.
-        EndsWell input (S.left source.new) start (seen (K.held sink.new) (F.files shelf.new) (F.failed shelf.new)))) }
+    // What is written is the replies to what is read, and where the shelf tells its files, they are those of the last world.
+    ensures done { result ≡ Status.Done → Told (S.left source.old) (λ input. Told (K.held sink.old) (λ written.
+        EndsWell input (S.left source.new) (outside written (F.files shelf.old) (F.failed shelf.old)) (seen (K.held sink.new) (F.files shelf.new) (F.failed shelf.new)))) }
 
     // Each other end has its cause, and says what is written then.
     ensures usage { (result ≡ Status.Usage) ↔ (AreGood words.now → ⊥) }
     ensures untouched { result ≡ Status.Usage → (source.new ≡ source.old) × (sink.new ≡ sink.old) × (shelf.new ≡ shelf.old) }
     ensures source_failed { result ≡ Status.SourceFault → Rose (S.faults source.old) (S.faults source.new) }
-    ensures source_fault { result ≡ Status.SourceFault → Told (S.left source.old) (λ input. Tells (seen (K.held sink.old) (F.files shelf.old) (F.failed shelf.old)) (λ start.
-        EndsWithFault input (S.left source.new) start (seen (K.held sink.new) (F.files shelf.new) (F.failed shelf.new)))) }
+    ensures source_fault { result ≡ Status.SourceFault → Told (S.left source.old) (λ input. Told (K.held sink.old) (λ written.
+        EndsWithFault input (S.left source.new) (outside written (F.files shelf.old) (F.failed shelf.old)) (seen (K.held sink.new) (F.files shelf.new) (F.failed shelf.new)))) }
     ensures sink_failed { result ≡ Status.SinkFault → Rose (K.faults sink.old) (K.faults sink.new) }
-    ensures sink_fault { result ≡ Status.SinkFault → Told (S.left source.old) (λ input. Tells (seen (K.held sink.old) (F.files shelf.old) (F.failed shelf.old)) (λ start.
-        EndsInPart input (S.left source.new) start (seen (K.held sink.new) (F.files shelf.new) (F.failed shelf.new)))) }
+    ensures sink_fault { result ≡ Status.SinkFault → Told (S.left source.old) (λ input. Told (K.held sink.old) (λ written.
+        EndsInPart input (S.left source.new) (outside written (F.files shelf.old) (F.failed shelf.old)) (seen (K.held sink.new) (F.files shelf.new) (F.failed shelf.new)))) }
     ensures is_long { result ≡ Status.ScriptTooLong → Told (S.left source.old) (λ input. script_limit < length input) }
-    ensures too_long { result ≡ Status.ScriptTooLong → Told (S.left source.old) (λ input. Tells (seen (K.held sink.old) (F.files shelf.old) (F.failed shelf.old)) (λ start.
-        EndsTooLong input (S.left source.new) start (seen (K.held sink.new) (F.files shelf.new) (F.failed shelf.new)))) }
-    ensures no_memory { result ≡ Status.NoMemory → Told (S.left source.old) (λ input. Tells (seen (K.held sink.old) (F.files shelf.old) (F.failed shelf.old)) (λ start.
-        EndsInPart input (S.left source.new) start (seen (K.held sink.new) (F.files shelf.new) (F.failed shelf.new)))) }
+    ensures too_long { result ≡ Status.ScriptTooLong → Told (S.left source.old) (λ input. Told (K.held sink.old) (λ written.
+        EndsTooLong input (S.left source.new) (outside written (F.files shelf.old) (F.failed shelf.old)) (seen (K.held sink.new) (F.files shelf.new) (F.failed shelf.new)))) }
+    ensures no_memory { result ≡ Status.NoMemory → Told (S.left source.old) (λ input. Told (K.held sink.old) (λ written.
+        EndsInPart input (S.left source.new) (outside written (F.files shelf.old) (F.failed shelf.old)) (seen (K.held sink.new) (F.files shelf.new) (F.failed shelf.new)))) }
 
     // With good words, no fault and a script that is not too long the run is done, or memory was wanted.
     ensures complete { AreGood words.now → (Rose (S.faults source.old) (S.faults source.new) → ⊥) → (Rose (K.faults sink.old) (K.faults sink.new) → ⊥) →

@@ -19,11 +19,11 @@ returns-in-Bad-clause-ok g c =
     passes_item c.write_then.result On Bad (item_of c.args.next)
     (λ item. Tells (seen (g.K.Sink.held c.args.sink.now) files failed) (λ start. Replied (held_of c.args.session.now) item (held_of c.args.session.now) start (seen (g.K.Sink.held c.write_then.new.sink) files failed)))
     c.write_then.ensures.ok (λ e. cc) (ap item_of c.in-Bad.is)
-    (λ t start h. plain_reply (held_of c.args.session.now) Bad (refusal_line BadCommand) c.as_bytes.result.now _ _ files failed start (refl, refl) c.as_bytes.ensures.value h (t start.written h.written))
+    (λ t start h. plain_reply (held_of c.args.session.now) Bad (refusal_line BadCommand) c.as_bytes.result.now _ _ files failed start (λ world. (refl, refl)) c.as_bytes.ensures.value h (t start.written h.written))
 
 pub returns-in-Bad-clause-part : goal.returns-in-Bad-clause-part
 returns-in-Bad-clause-part g c = on_err_weaker c.write_then.result
-    (λ t start h. rw c.in-Bad.is (plain_front (held_of c.args.session.now) Bad (refusal_line BadCommand) c.as_bytes.result.now _ _ _ _ start (refl, refl) c.as_bytes.ensures.value h (t start.written h.written)))
+    (λ t start h. rw c.in-Bad.is (plain_front (held_of c.args.session.now) Bad (refusal_line BadCommand) c.as_bytes.result.now _ _ _ _ start (λ world. (refl, refl)) c.as_bytes.ensures.value h (t start.written h.written)))
     c.write_then.ensures.part
 
 pub returns-in-CutShort-clause-ok : goal.returns-in-CutShort-clause-ok
@@ -33,9 +33,9 @@ returns-in-CutShort-clause-ok g c =
     passes_item c.write_then-in-CutShort.result On CutShort (item_of c.args.next)
     (λ item. Tells (seen (g.K.Sink.held c.args.sink.now) files failed) (λ start. Replied (held_of c.args.session.now) item (held_of c.args.session.now) start (seen (g.K.Sink.held c.write_then-in-CutShort.new.sink) files failed)))
     c.write_then-in-CutShort.ensures.ok (λ e. cc) (ap item_of c.in-CutShort.is)
-    (λ t start h. plain_reply (held_of c.args.session.now) CutShort (refusal_line CutShortRefusal) c.as_bytes-in-CutShort.result.now _ _ files failed start (refl, refl) c.as_bytes-in-CutShort.ensures.value h (t start.written h.written))
+    (λ t start h. plain_reply (held_of c.args.session.now) CutShort (refusal_line CutShortRefusal) c.as_bytes-in-CutShort.result.now _ _ files failed start (λ world. (refl, refl)) c.as_bytes-in-CutShort.ensures.value h (t start.written h.written))
 
 pub returns-in-CutShort-clause-part : goal.returns-in-CutShort-clause-part
 returns-in-CutShort-clause-part g c = on_err_weaker c.write_then-in-CutShort.result
-    (λ t start h. rw c.in-CutShort.is (plain_front (held_of c.args.session.now) CutShort (refusal_line CutShortRefusal) c.as_bytes-in-CutShort.result.now _ _ _ _ start (refl, refl) c.as_bytes-in-CutShort.ensures.value h (t start.written h.written)))
+    (λ t start h. rw c.in-CutShort.is (plain_front (held_of c.args.session.now) CutShort (refusal_line CutShortRefusal) c.as_bytes-in-CutShort.result.now _ _ _ _ start (λ world. (refl, refl)) c.as_bytes-in-CutShort.ensures.value h (t start.written h.written)))
     c.write_then-in-CutShort.ensures.part
