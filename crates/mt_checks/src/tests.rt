@@ -156,6 +156,27 @@ fn a_script_has_a_greatest_length(rt: HostRuntime) -> Result<(), Fail> {
     Ok(())
 }
 
+/// Adds a command with a text of this name and so many tokens.
+fn add_text(script: &mut String, head: &str, tokens: usize) -> Result<(), AllocError> {
+    script.push_str(head)?;
+    for _ in 0..tokens {
+        script.push_str("x\n")?;
+    }
+    Ok(())
+}
+
+#[test]
+fn a_text_has_a_greatest_number_of_tokens(rt: HostRuntime) -> Result<(), Fail> {
+    let mut script = String::new(rt.alloc());
+    add_text(&mut script, "text a 1048577\n", 1_048_577)?;
+    add_text(&mut script, "text a 1048576\n", 1_048_576)?;
+    let (status, sink) = ran(rt.alloc(), script.as_bytes(), &[], &[])?;
+    assert_eq!(rt; status, Status::Done);
+    let wanted = "! 17 BadVertical 1048577 TooManyTokens\nok 1048576\n";
+    assert_eq!(rt; sink.written().as_slice(), wanted.as_bytes());
+    Ok(())
+}
+
 /// The files of the scripts below.
 const FILES: [(&str, &str); 4] = [
     ("r", "ATTRIBUTE w\nATTRIBUTE tag\nSTRUCTURE s\n"),
