@@ -1,13 +1,12 @@
 -- The tokens that values make, row by row: how many there are, a token by its place, and one more at the end.
-use Rattle.std.proofs.Common.{◌≡◌, ℕ, zero, suc, ◌+◌, ◌*◌, ◌<◌, ◌≤◌, List, [], ◌∷◌, ◌++◌, length, take, drop, get_or, Bool, true, false, cond, refl, sym, subst, ◌∙◌, ap, ap₂, arith, length-append, length-take}
-use Rattle.std.specs.List.{All, count_by}
+use Rattle.std.proofs.Common.{◌≡◌, ℕ, zero, suc, ◌+◌, ◌*◌, ◌<◌, ◌≤◌, List, [], ◌∷◌, ◌++◌, length, take, drop, get_or, true, false, refl, sym, ◌∙◌, ap, ap₂, arith, length-append}
+use Rattle.std.specs.List.{count_by}
 use Rattle.std.specs.Str.{bytes_eq}
 use Rattle.std.proofs.Math.Nat.{suc-mul, mul_comm}
 use Rattle.std.proofs.lemmas.Nat.{mul-add-lt}
 use Rattle.std.proofs.lemmas.Grind.{common_steps}
 use Rattle.std.proofs.lemmas.List.{take_all, drop-append-le, take-append-le, length-drop, get_or-take, get_or-drop}
-use Rattle.std.proofs.lemmas.List.Elements.{All-nil, All-cons, All-head}
-use Rattle.std.proofs.lemmas.List.Sums.{sum_by-cons, count_by_more_yes, count_by_more_no}
+use Rattle.std.proofs.lemmas.List.Sums.{count_by_more_yes, count_by_more_no}
 use Rattle.mt_text_spec.specs.Texts.{Token, value_of}
 use Rattle.mt_base.specs.Rows.{rows}
 
@@ -41,20 +40,6 @@ pub rows_long : (columns count : ℕ) (values row : List (List ℕ)) → length 
     length (values ++ row) ≡ (count + 1) * columns
 rows_long columns count values row e r = omega (arith, e, r, length-append values row, suc-mul count columns)
 
--- each token has so many values
-pub rows_wide : (columns count : ℕ) (values : List (List ℕ)) (column : ℕ) → length values ≡ count * columns → column < columns →
-    All (λ token. column < length token.values) (rows columns count values)
-rows_wide columns zero values column e l = All-nil (λ token. column < length token.values)
-rows_wide columns (suc count) values column e l =
-    All-cons (λ token. column < length token.values) (record { values = take columns values }) (rows columns count (drop columns values))
-    (omega (arith, length-take columns values, first_row columns count values e, l)) (rows_wide columns count (drop columns values) column (other_rows columns count values e) l)
-
-pub within_row : (columns count : ℕ) (values : List (List ℕ)) (column place : ℕ) → place < count → All (λ token. column < length token.values) (rows columns count values) → column < columns
-within_row columns zero values column place l h = absurd (omega arith)
-within_row columns (suc count) values column place l h =
-    let k : column < length (take columns values) = All-head (λ token. column < length token.values) (record { values = take columns values }) (rows columns count (drop columns values)) h in
-    omega (arith, k, length-take columns values)
-
 pub value_at : (columns count : ℕ) (values : List (List ℕ)) (place column : ℕ) (token : Token) → place < count → column < columns →
     value_of (get_or (rows columns count values) place token) column ≡ get_or values (place * columns + column) []
 value_at columns zero values place column token l k = absurd (omega arith)
@@ -68,35 +53,11 @@ value_at columns (suc count) values (suc place) column token l k =
 past_row : (columns column : ℕ) (values : List (List ℕ)) → columns ≤ column → get_or (take columns values) column [] ≡ []
 past_row columns column values l = grind (arith, common_steps)
 
--- a token as narrow as the others that is counted or not by the value that it has not
-first_past : (columns column : ℕ) (values : List (List ℕ)) (value : List ℕ) (b : Bool) → columns ≤ column → bytes_eq [] value ≡ b →
-    cond {A = ℕ} (bytes_eq (get_or (take columns values) column []) value) 1 0 ≡ cond {A = ℕ} b 1 0
-first_past columns column values value b l e =
-    ap (λ (v : List ℕ). cond {A = ℕ} (bytes_eq v value) 1 0) (past_row columns column values l) ∙ ap (λ (t : Bool). cond {A = ℕ} t 1 0) e
-
-pub all_past : (columns count : ℕ) (values : List (List ℕ)) (column : ℕ) (value : List ℕ) → columns ≤ column → length value ≡ 0 →
-    count ≡ count_by (λ token. bytes_eq (value_of token column) value) (rows columns count values)
-all_past columns zero values column value l e = refl
-all_past columns (suc count) values column [] l e =
-    omega (
-      arith,
-      sum_by-cons (λ (token : Token). cond (bytes_eq (value_of token column) []) 1 0) (record { values = take columns values }) (rows columns count (drop columns values)),
-      first_past columns column values [] true l refl,
-      all_past columns count (drop columns values) column [] l e,
-    )
-all_past columns (suc count) values column (b ∷ value) l e = absurd (omega arith)
-
-pub none_past : (columns count : ℕ) (values : List (List ℕ)) (column : ℕ) (value : List ℕ) → columns ≤ column → 0 < length value →
-    0 ≡ count_by (λ token. bytes_eq (value_of token column) value) (rows columns count values)
-none_past columns zero values column value l e = refl
-none_past columns (suc count) values column [] l e = absurd (omega arith)
-none_past columns (suc count) values column (b ∷ value) l e =
-    omega (
-      arith,
-      sum_by-cons (λ (token : Token). cond (bytes_eq (value_of token column) (b ∷ value)) 1 0) (record { values = take columns values }) (rows columns count (drop columns values)),
-      first_past columns column values (b ∷ value) false l refl,
-      none_past columns count (drop columns values) column (b ∷ value) l e,
-    )
+pub value_past : (columns count : ℕ) (values : List (List ℕ)) (place column : ℕ) (token : Token) → place < count → columns ≤ column →
+    value_of (get_or (rows columns count values) place token) column ≡ []
+value_past columns zero values place column token l k = absurd (omega arith)
+value_past columns (suc count) values zero column token l k = past_row columns column values k
+value_past columns (suc count) values (suc place) column token l k = value_past columns count (drop columns values) place column token (omega arith) k
 
 -- one token more is counted, where its value is known
 pub counted_yes : (tokens : List Token) (column place found : ℕ) (seen value : List ℕ) → place < length tokens →
@@ -115,15 +76,7 @@ counted_no tokens column place found seen value l h s e =
     let d : Token = record { values = [] } in
     h ∙ sym (count_by_more_no (λ token. bytes_eq (value_of token column) value) tokens place d l (ap (λ v. bytes_eq v value) (sym (s d)) ∙ e))
 
--- where a value is looked for
-pub record Placed (columns count : ℕ) (values : List (List ℕ)) (place column : ℕ) : Type 0 where
-  pub counted : place < count
-  pub in_row : column < columns
-  pub within : place * columns + column < length values
-
-pub placed : (columns count : ℕ) (values : List (List ℕ)) (tokens : List Token) (place column : ℕ) → rows columns count values ≡ tokens → length values ≡ count * columns →
-    place < length tokens → All (λ token. column < length token.values) tokens → Placed columns count values place column
-placed columns count values tokens place column t e l h =
-    let p : place < count = omega (arith, length-rows columns count values, ap length t, l) in
-    let r : column < columns = within_row columns count values column place p (subst (All (λ token. column < length token.values)) (sym t) h) in
-    record { counted = p; in_row = r; within = rw (e, mul_comm count columns) (mul-add-lt place columns column count p r) }
+-- a value lies within its values
+pub placed : (columns count : ℕ) (values : List (List ℕ)) (place column : ℕ) → length values ≡ count * columns → place < count → column < columns →
+    place * columns + column < length values
+placed columns count values place column e p r = rw (e, mul_comm count columns) (mul-add-lt place columns column count p r)

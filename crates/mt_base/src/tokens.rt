@@ -1,7 +1,6 @@
 //! The tokens of a text, by their values.
 
-ghost use Rattle.std.specs.Prelude.{◌≡◌, ◌<◌, ◌++◌, ◌∷◌, [], length, nat_eq, slice_index_or, count_by, OnOk, OnErr};
-ghost use Rattle.std.specs.List.{All};
+ghost use Rattle.std.specs.Prelude.{◌≡◌, ◌<◌, ◌≤◌, ◌++◌, ◌∷◌, [], length, nat_eq, slice_index_or, count_by, OnOk, OnErr};
 ghost use Rattle.std.specs.Str.{bytes_eq};
 ghost use Rattle.mt_text_spec.specs.Texts.{Token, value_of};
 ghost use Rattle.mt_base.specs.Rows as spec;
@@ -78,35 +77,24 @@ impl Tokens {
         Ok(())
     }
 
-    /// The value of the token at a place, counted from 0, at a base attribute, by its place among the base attributes.
+    /// The value of the token at a place, counted from 0, at a base attribute, by its place among the base attributes. A value that a token has not is empty.
     pub fn value(&self, place: usize, column: usize) -> &str
-        requires place { place < length self.now.tokens }
-        requires column { All (λ token. column < length token.values) self.now.tokens }
+        requires { place < length self.now.tokens }
         ensures { (token : Token) → result.now ≡ value_of (slice_index_or self.now.tokens place token) column }
     {
+        if column >= self.columns {
+            return "";
+        }
         let end = self.values.len();
         let at = place * self.columns + column;
         prove!(at < end);
         self.values.get(at)
     }
 
-    /// How many tokens have this value at a base attribute. Where a token has no such value, it is taken to be empty.
+    /// How many tokens have this value at a base attribute.
     pub fn count_in(&self, column: usize, value: &[u8]) -> usize
-        ensures { result ≡ count_by (λ token. bytes_eq (value_of token column) value.now) self.now.tokens }
-    {
-        if column < self.columns {
-            self.count_equal(column, value)
-        } else if value.is_empty() {
-            self.count
-        } else {
-            0
-        }
-    }
-
-    /// How many tokens have this value at a base attribute that each of them has.
-    fn count_equal(&self, column: usize, value: &[u8]) -> usize
-        requires { column < self.now.columns }
-        ensures { result ≡ count_by (λ token. bytes_eq (value_of token column) value.now) self.now.tokens }
+        ensures count { result ≡ count_by (λ token. bytes_eq (value_of token column) value.now) self.now.tokens }
+        ensures bound { result ≤ length self.now.tokens }
     {
         let mut found = 0;
         for place in 0..self.count {
