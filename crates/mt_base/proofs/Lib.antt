@@ -1,2 +1,4 @@
+pub mod Blocks
 pub mod FirstLine
 pub mod Names
+pub mod Rows

@@ -1,7 +1,7 @@
 //! Values, lists, registries, texts, spans, lines and counters of steps: the small types that every crate of the engine uses.
 //!
-//! Contracts see a `Value` as its bytes, a `List` as the list of its items, a `Registry`, a `Text`, a `Span` and a `Row` as the records of `mt_text_spec`, `Lines` as the
-//! list of lines to come, and `Steps` as a number.
+//! Contracts see a `Value` as its bytes, a `List` as the list of its items, `Strings` as the list of their bytes, `Tokens` as the number of their values and the list of tokens,
+//! a `Registry`, a `Text`, a `Span` and a `Row` as the records of `mt_text_spec`, `Lines` as the list of lines to come, and `Steps` as a number.
 #![tactic(auto)]
 
 mod lines;
@@ -9,7 +9,9 @@ mod list;
 mod registry;
 mod span;
 mod steps;
+mod strings;
 mod text;
+mod tokens;
 mod value;
 
 pub use lines::Lines;
@@ -18,7 +20,9 @@ pub use registry::{Attr, Kind, Registry};
 pub use span::{Row, Span};
 use std::alloc::{AllocError, AllocFailed};
 pub use steps::Steps;
-pub use text::{StructSpan, Text, Token};
+pub use strings::Strings;
+pub use text::{StructSpan, Text};
+pub use tokens::Tokens;
 pub use value::Value;
 
 /// Want of memory: the one answer that any call which takes memory may give at any time.
@@ -45,6 +49,8 @@ pub fn are_shared<T: Send + Sync>() {
     shared::<List<T>>();
     shared::<List<Value>>();
     shared::<Registry>();
+    shared::<Strings>();
+    shared::<Tokens>();
     shared::<Text>();
     shared::<List<Row>>();
     shared::<NoMemory>();

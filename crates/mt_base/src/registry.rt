@@ -187,12 +187,19 @@ impl Registry {
         ensures base { IfSome result (λ n. IsBaseAt self.now.attrs attr) }
         ensures none { IfNone result (¬ IsBaseAt self.now.attrs attr) }
     {
-        let attrs = self.attrs.as_slice();
-        let number = attr as usize;
-        if !attrs.get(number)?.is_base() {
+        if !self.attrs.as_slice().get(attr as usize)?.is_base() {
             return None;
         }
-        Some(base_count(&attrs[..number]) as u16)
+        Some(self.bases_before(attr) as u16)
+    }
+
+    /// How many base attributes are declared before the attribute with this number.
+    pub fn bases_before(&self, attr: u16) -> usize
+        requires { attr < length self.now.attrs }
+        ensures place { result ≡ column_of self.now.attrs attr }
+        ensures few { result ≤ attr }
+    {
+        base_count(&self.attrs.as_slice()[..attr as usize])
     }
 }
 

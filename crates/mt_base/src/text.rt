@@ -1,46 +1,10 @@
-//! Texts, their tokens and their instances of structures, seen as the records of `mt_text_spec`.
+//! Texts and their instances of structures, seen as the records of `mt_text_spec`.
 
 ghost use Rattle.std.specs.Prelude.{◌≡◌, ◌<◌, length, nat_eq};
 ghost use Rattle.mt_text_spec.specs.Texts as spec;
 
-use super::{List, Value};
+use super::{List, Tokens, Value};
 use std::marker::Model;
-
-/// A token: one value for each base attribute, in order of declaration.
-#[derive(Debug, Drop)]
-pub struct Token {
-    values: List<Value>,
-}
-
-impl Model for Token {
-    ghost Value = { spec.Token };
-
-    ghost view = { λ t. record { values = t.values } };
-}
-
-impl Token {
-    /// The token with these values. It takes no memory.
-    pub fn new(values: List<Value>) -> Self
-        ensures { result ≡ record { values = values } }
-    {
-        Token { values }
-    }
-
-    /// The values of all attributes.
-    pub fn values(&self) -> &List<Value>
-        ensures { result.now ≡ self.now.values }
-    {
-        &self.values
-    }
-
-    /// The value of a base attribute, by its place among the base attributes, from 0.
-    pub fn value(&self, column: usize) -> &Value
-        requires { column < length self.now.values }
-        ensures { result.now ≡ spec.value_of self.now column }
-    {
-        self.values.get(column)
-    }
-}
 
 /// An instance of a structure in a text: the number of its kind, where it begins and where it ends, as numbers of tokens before either, and one value for
 /// each attribute of its kind.
@@ -104,20 +68,20 @@ impl StructSpan {
 #[derive(Debug, Drop)]
 pub struct Text {
     name: Value,
-    tokens: List<Token>,
+    tokens: Tokens,
     structs: List<StructSpan>,
 }
 
 impl Model for Text {
     ghost Value = { spec.Text };
 
-    ghost view = { λ t. record { name = t.name; tokens = t.tokens; structs = t.structs } };
+    ghost view = { λ t. record { name = t.name; tokens = t.tokens.tokens; structs = t.structs } };
 }
 
 impl Text {
     /// The text of this name with these tokens and instances. It takes no memory.
-    pub fn new(name: Value, tokens: List<Token>, structs: List<StructSpan>) -> Self
-        ensures { result ≡ record { name = name; tokens = tokens; structs = structs } }
+    pub fn new(name: Value, tokens: Tokens, structs: List<StructSpan>) -> Self
+        ensures { result ≡ record { name = name; tokens = tokens.tokens; structs = structs } }
     {
         Text {
             name,
@@ -134,8 +98,8 @@ impl Text {
     }
 
     /// The tokens.
-    pub fn tokens(&self) -> &List<Token>
-        ensures { result.now ≡ self.now.tokens }
+    pub fn tokens(&self) -> &Tokens
+        ensures { result.now.tokens ≡ self.now.tokens }
     {
         &self.tokens
     }

@@ -1,4 +1,3 @@
-pub mod Blocks
 pub mod FirstSight
 pub mod Halves
 pub mod Joined

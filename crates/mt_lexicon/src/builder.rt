@@ -8,9 +8,8 @@ ghost use Rattle.mt_store_spec.specs.Lexicons.{IsLexiconOf, Renumbers, seen_with
 
 use super::lexicon::Lexicon;
 use super::renumbering::Renumbering;
-use super::strings::Strings;
 use indexmap::IndexSet;
-use mt_base::NoMemory;
+use mt_base::{NoMemory, Strings};
 use std::alloc::Global;
 use std::marker::Model;
 

@@ -4,8 +4,7 @@ ghost use Rattle.std.specs.Prelude.{◌≡◌, ℕ, ◌+◌, ◌-◌, ◌*◌, �
 ghost use Rattle.std.specs.List.{Contains};
 ghost use Rattle.mt_store_spec.specs.Lexicons.{IsAscending};
 
-use super::strings::Strings;
-use mt_base::Steps;
+use mt_base::{Steps, Strings};
 use std::cmp::Ordering;
 use std::marker::Model;
 use std::sync::ledger::Ledger;

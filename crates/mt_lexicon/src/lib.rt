@@ -10,7 +10,6 @@ mod laws;
 mod lexicon;
 mod merger;
 mod renumbering;
-mod strings;
 
 pub use builder::LexiconBuilder;
 pub use laws::{have_a_lexicon, have_one_lexicon, is_shortest, is_told_by_members};

@@ -7,8 +7,7 @@ ghost use Rattle.mt_lexicon.specs.Joins.{Joins, JoinsMerged, Merges, ComesNext, 
 
 use super::lexicon::Lexicon;
 use super::renumbering::Renumbering;
-use super::strings::Strings;
-use mt_base::{List, NoMemory};
+use mt_base::{List, NoMemory, Strings};
 use std::alloc::Global;
 use std::cmp::Ordering;
 use std::marker::Model;

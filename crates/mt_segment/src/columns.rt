@@ -43,8 +43,9 @@ fn add_text(numbering: &mut Numbering, text: &Text, column: usize) -> Result<(),
     requires column { All (λ token. column < length token.values) text.now.tokens }
     ensures { OnOk result (numbering.new ≡ numbering.old ++ map (λ token. value_of token column) text.now.tokens) }
 {
-    for token in text.tokens().as_slice() {
-        numbering.push(token.value(column).as_str())?;
+    let tokens = text.tokens();
+    for place in 0..tokens.len() {
+        numbering.push(tokens.value(place, column))?;
     }
     Ok(())
 }

@@ -1,15 +1,14 @@
 -- Attributes in tags: each is read exactly where it is spelled.
-use Rattle.std.proofs.Common.{◌≡◌, ℕ, suc, ◌+◌, ◌<◌, ◌≤◌, ◌⊎◌, inl, inr, Bool, true, false, ◌==◌, ◌&&◌, ◌||◌, if◌then◌else◌, List, [], ◌∷◌, ◌++◌, length, take, drop, get_or, nat_lt, nat_le, refl, sym, ◌∙◌, ap, subst, arith, append_assoc, Option, None, Some}
-use Rattle.std.specs.Char.{is_ascii_alphanumeric, is_ascii_alphabetic}
-use Rattle.std.specs.List.{All, AllPass, prefix_len}
-use Rattle.std.proofs.lemmas.Bool.{and_parts, eqb-true, ltb-true, le-leb, leb-true, true≢false}
+use Rattle.std.proofs.Common.{◌≡◌, ℕ, suc, ◌+◌, ◌<◌, Bool, true, false, ◌==◌, ◌&&◌, if◌then◌else◌, List, [], ◌∷◌, ◌++◌, length, take, drop, get_or, nat_lt, nat_le, refl, sym, ◌∙◌, ap, subst, arith, append_assoc, Option, None, Some}
+use Rattle.std.specs.List.{AllPass, prefix_len}
+use Rattle.std.proofs.lemmas.Bool.{and_parts, eqb-true, ltb-true, le-leb, leb-true}
 use Rattle.std.proofs.lemmas.Grind.{common_steps}
 use Rattle.std.proofs.lemmas.List.{take-append-drop}
 use Rattle.std.proofs.lemmas.List.Sums.{prefix_len_stops}
 use Rattle.mt_text_spec.specs.Words.{is_identifier_start, is_identifier_byte, IsIdentifier}
 use Rattle.mt_file_spec.specs.Tags.{is_space, AreSpaces, is_quote, differs, TagAttr, SpellsAttr, SpellsAttrs}
 use Rattle.mt_vertical.specs.TagReading.{◌>>=◌, past, starts, behind, identifier_at, equals_at, quote_at, quoted_at, attr_at, ReadsAttrs}
-use Rattle.mt_vertical.proofs.Steps.{then_some, if_some, same, none_some, some_once, all_tail, all_head, front_of, take_front, left_of, parts, front_passes, some_pass}
+use Rattle.mt_vertical.proofs.Steps.{then_some, if_some, same, none_some, some_once, all_head, front_of, take_front, left_of, parts, front_passes, some_pass}
 
 -- ## Identifiers
 

@@ -1,10 +1,10 @@
 -- What is kept of a kind's instances stands for those that the lines begin.
-use Rattle.std.proofs.Common.{◌≡◌, ℕ, zero, suc, ◌+◌, ◌<◌, ◌≤◌, Bool, true, false, ◌==◌, if◌then◌else◌, List, [], ◌∷◌, ◌++◌, length, take, get_or, refl, sym, ◌∙◌, ap, subst, arith, append_assoc, Option, None, Some}
+use Rattle.std.proofs.Common.{◌≡◌, ℕ, zero, suc, ◌+◌, ◌<◌, ◌≤◌, Bool, true, false, ◌==◌, List, [], ◌∷◌, ◌++◌, length, take, get_or, refl, sym, ◌∙◌, ap, arith, append_assoc, Option, None, Some}
 use Rattle.std.proofs.lemmas.Grind.{common_steps}
-use Rattle.mt_text_spec.specs.Texts.{Token, StructSpan}
+use Rattle.mt_text_spec.specs.Texts.{StructSpan}
 use Rattle.mt_file_spec.specs.VerticalLines.{Role, Passes, Opens, Stands, Closes, Gives}
 use Rattle.mt_file_spec.specs.Vertical.{past, is_tag_of, next_place, begun, instances_from, instances_in}
-use Rattle.mt_vertical.specs.Readers.{Began, Kept, closed_at, ended, opened, stood, step, gathered}
+use Rattle.mt_vertical.specs.Readers.{Began, Kept, closed_at, ended, step, gathered}
 use Rattle.mt_vertical.proofs.Filled.{gathered_push}
 
 -- the open instance, which ends at the next tag of its kind

@@ -1,20 +1,20 @@
 -- What a line that was read does, and that it has no cause.
-use Rattle.std.proofs.Common.{◌≡◌, ◌≢◌, ℕ, zero, suc, ◌+◌, ◌<◌, ◌≤◌, inl, inr, Bool, true, false, ◌==◌, if◌then◌else◌, List, [], ◌∷◌, ◌++◌, length, map, get_or, refl, sym, ◌∙◌, ap, subst, arith, Option, None, Some, Result, Ok, Err}
+use Rattle.std.proofs.Common.{◌≡◌, ◌≢◌, ℕ, zero, suc, ◌+◌, ◌<◌, ◌≤◌, inl, inr, List, [], ◌∷◌, ◌++◌, length, map, get_or, refl, sym, ◌∙◌, ap, subst, arith, Some, Result, Ok, Err}
 use Rattle.std.specs.Prelude.{slice_get, OnOk}
-use Rattle.std.specs.List.{All, Any, Contains}
+use Rattle.std.specs.List.{Contains}
 use Rattle.std.specs.Str.{IsUtf8}
 use Rattle.std.proofs.lemmas.Grind.{common_steps}
-use Rattle.mt_text_spec.specs.Registries.{Registry, Kind, ValidRegistry, kind_names, base_count}
+use Rattle.mt_text_spec.specs.Registries.{Registry, Kind, ValidRegistry, kind_names}
 use Rattle.mt_text_spec.specs.Texts.{Token, text_limit}
 use Rattle.mt_file_spec.specs.Tags.{TagAttr, Tag, OpeningTag, EmptyTag, ClosingTag, IsTag, tag_value}
 use Rattle.mt_file_spec.specs.VerticalLines.{IsSkipped, Role, Passes, Opens, Stands, Closes, Gives, Plays, tag_name, columns, first_columns}
-use Rattle.mt_file_spec.specs.Vertical.{TextCause, NotUtf8, TooManyTokens, ValueTooLong, cause_rank, HasCause, token_in, past, kept, value_limit}
+use Rattle.mt_file_spec.specs.Vertical.{TextCause, NotUtf8, TooManyTokens, ValueTooLong, cause_rank, HasCause, token_in, kept, value_limit}
 use Rattle.mt_vertical.specs.declared.text.tags.Form.{Form}
 use Rattle.mt_vertical.specs.declared.text.tags.Form.TheVariants as form
-use Rattle.mt_vertical.specs.Readers.{State, Kept, Did, IsSound, HasReadLine, Refuses, AreShort, HasLong, step, token_role}
+use Rattle.mt_vertical.specs.Readers.{State, Did, IsSound, HasReadLine, Refuses, AreShort, HasLong, token_role}
 use Rattle.mt_vertical.specs.TagReading.{ReadsAttrs}
 use Rattle.mt_vertical.specs.TagForms.{IsFound, tag_of}
-use Rattle.mt_vertical.proofs.Steps.{same, some_once}
+use Rattle.mt_vertical.proofs.Steps.{same}
 use Rattle.mt_vertical.proofs.OneRole.{plays_once}
 use Rattle.mt_vertical.proofs.Utf8.{name_text}
 

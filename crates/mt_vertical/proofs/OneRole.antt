@@ -1,15 +1,14 @@
 -- A line is read in one way.
-use Rattle.std.proofs.Common.{◌≡◌, ℕ, zero, suc, ◌+◌, ◌<◌, ◌≤◌, ◌⊎◌, inl, inr, Bool, true, false, ◌==◌, List, [], ◌∷◌, ◌++◌, length, map, codes, get_or, refl, sym, ◌∙◌, ap, subst, arith, append_assoc, option_map, Option, None, Some}
+use Rattle.std.proofs.Common.{◌≡◌, ℕ, zero, suc, ◌<◌, ◌≤◌, ◌⊎◌, inl, inr, Bool, true, false, List, [], ◌∷◌, ◌++◌, length, map, codes, get_or, refl, sym, ◌∙◌, ap, subst, arith, append_assoc, option_map, Some}
 use Rattle.std.specs.Prelude.{slice_get}
-use Rattle.std.specs.List.{All, AllPass, AllPairs, Contains}
+use Rattle.std.specs.List.{Contains}
 use Rattle.std.proofs.lemmas.Bool.{true≢false, cases_lt}
 use Rattle.std.proofs.lemmas.Option.{slice_get-map}
-use Rattle.std.proofs.lemmas.Grind.{common_steps}
 use Rattle.mt_text_spec.specs.Words.{is_identifier_start}
-use Rattle.mt_text_spec.specs.Registries.{Registry, Kind, ValidRegistry, AreDistinct, kind_names, base_count}
+use Rattle.mt_text_spec.specs.Registries.{Registry, Kind, ValidRegistry, AreDistinct, kind_names}
 use Rattle.mt_text_spec.specs.Texts.{Token}
-use Rattle.mt_file_spec.specs.Tags.{is_space, AreSpaces, IsTagName, TagAttr, Tag, OpeningTag, EmptyTag, ClosingTag, SpellsBegin, SpellsEnd, Spells, IsTag, tag_value}
-use Rattle.mt_file_spec.specs.VerticalLines.{Encloses, IsSkipped, Role, Passes, Opens, Stands, Closes, Gives, Plays, tag_name, IsForeign, IsDeclared, IsDeclaredEnd, IsTokenLine, columns, first_columns}
+use Rattle.mt_file_spec.specs.Tags.{is_space, AreSpaces, IsTagName, TagAttr, Tag, OpeningTag, EmptyTag, ClosingTag, SpellsEnd, Spells, IsTag, tag_value}
+use Rattle.mt_file_spec.specs.VerticalLines.{IsSkipped, Role, Passes, Opens, Stands, Closes, Gives, Plays, tag_name, IsTokenLine}
 use Rattle.mt_vertical.specs.TagReading.{behind, tag_name_at, tail_at, ReadsAttrs}
 use Rattle.mt_vertical.specs.TagForms.{ReadsBegin, ReadsEnd}
 use Rattle.mt_vertical.proofs.Steps.{some_once, same}

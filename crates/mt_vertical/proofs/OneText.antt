@@ -1,10 +1,9 @@
 -- Bytes are read as one text, or refused for one cause.
-use Rattle.std.proofs.Common.{◌≡◌, ℕ, zero, suc, ◌+◌, ◌<◌, ◌≤◌, ◌⊎◌, inl, inr, List, [], ◌∷◌, ◌++◌, length, refl, sym, ◌∙◌, ap, subst, arith, append_assoc}
+use Rattle.std.proofs.Common.{◌≡◌, ℕ, ◌+◌, ◌<◌, ◌≤◌, ◌⊎◌, inl, inr, List, [], ◌∷◌, ◌++◌, length, refl, sym, ◌∙◌, ap, subst, arith}
 use Rattle.std.proofs.lemmas.Bool.{cases_lt}
-use Rattle.std.proofs.lemmas.Grind.{common_steps}
 use Rattle.mt_text_spec.specs.Registries.{Registry, ValidRegistry}
 use Rattle.mt_text_spec.specs.Texts.{Token, StructSpan, Text}
-use Rattle.mt_file_spec.specs.VerticalLines.{Role, Plays}
+use Rattle.mt_file_spec.specs.VerticalLines.{Role}
 use Rattle.mt_file_spec.specs.Vertical.{TextCause, NotUtf8, TooManyTokens, ValueTooLong, cause_rank, HasCause, AreRead, past, tokens_in, instances_in, text_lines, Vertical, FirstTextFault}
 use Rattle.mt_vertical.proofs.SoFar.{IsGood, place_after, place_is}
 use Rattle.mt_vertical.proofs.OneRole.{plays_once}

@@ -1,6 +1,5 @@
 -- Which fault a refusal of a text tells.
-use Rattle.std.proofs.Common.{◌≡◌, ℕ, refl, sym, ◌∙◌, ap}
-use Rattle.mt_vertical.specs.declared.text.TextError.{TextError}
+use Rattle.std.proofs.Common.{◌≡◌, ℕ, refl}
 use Rattle.mt_vertical.specs.declared.text.TextError.TheVariants as error
 use Rattle.mt_vertical.specs.declared.text.values.Fault.{Fault}
 use Rattle.mt_vertical.specs.declared.text.values.Fault.TheVariants as fault

@@ -1,14 +1,13 @@
 -- The bytes in front that pass a test, and what stands behind them.
-use Rattle.std.proofs.Common.{◌≡◌, ℕ, ◌+◌, ◌-◌, ◌<◌, ◌≤◌, Bool, true, false, ◌==◌, List, [], ◌∷◌, ◌++◌, length, take, drop, get_or, refl, sym, ◌∙◌, ap, arith, nat_lt, if◌then◌else◌, Option, None, Some}
-use Rattle.std.specs.List.{All, AllPass, prefix_len, list_all}
-use Rattle.std.proofs.lemmas.Grind.{common_steps}
-use Rattle.std.proofs.lemmas.Bool.{false_from_ne_true, true≢false}
-use Rattle.std.proofs.lemmas.List.{take-append-drop, take_rest}
+use Rattle.std.proofs.Common.{◌≡◌, ℕ, ◌+◌, ◌-◌, Bool, true, false, ◌==◌, List, length, take, drop, get_or, refl, sym, ◌∙◌, ap, arith, nat_lt, None, Some}
+use Rattle.std.specs.List.{prefix_len}
+use Rattle.std.proofs.lemmas.Bool.{false_from_ne_true}
+use Rattle.std.proofs.lemmas.List.{take_rest}
 use Rattle.std.proofs.lemmas.List.Folds.{length-prefix_len}
-use Rattle.std.proofs.lemmas.List.Sums.{prefix_len-le-length, prefix_len_is, prefix_len_passes, prefix_len_stops}
+use Rattle.std.proofs.lemmas.List.Sums.{prefix_len_is}
 use Rattle.memchr.specs.Find.{Nowhere, NoneBefore, Passes, is_byte}
 use Rattle.mt_file_spec.specs.Tags.{differs}
-use Rattle.mt_vertical.specs.TagReading.{past, starts, quote_at}
+use Rattle.mt_vertical.specs.TagReading.{past, quote_at}
 
 -- the count of those that are taken while they pass
 pub count_taken : (p : ℕ → Bool) (bytes rest : List ℕ) (n : ℕ) → n ≡ length (take (prefix_len p bytes) bytes) → rest ≡ drop n bytes → rest ≡ past p bytes

@@ -1,12 +1,11 @@
 -- What reading a line adds to what was read.
-use Rattle.std.proofs.Common.{◌≡◌, ℕ, zero, suc, ◌+◌, ◌<◌, ◌≤◌, Bool, true, false, ◌==◌, if◌then◌else◌, List, [], ◌∷◌, ◌++◌, length, take, get_or, replicate, refl, sym, ◌∙◌, ap, subst, arith, append_assoc, Option, None, Some}
-use Rattle.std.specs.List.{flat_map}
+use Rattle.std.proofs.Common.{◌≡◌, ℕ, zero, suc, ◌+◌, ◌<◌, ◌≤◌, List, [], ◌∷◌, ◌++◌, length, get_or, replicate, refl, sym, ◌∙◌, ap, subst, arith, append_assoc, None}
 use Rattle.std.proofs.lemmas.Grind.{common_steps}
 use Rattle.mt_text_spec.specs.Registries.{Registry, base_count}
-use Rattle.mt_text_spec.specs.Texts.{Token, StructSpan, Text, text_limit}
+use Rattle.mt_text_spec.specs.Texts.{Token, Text, text_limit}
 use Rattle.mt_file_spec.specs.VerticalLines.{Role, Passes, Opens, Stands, Closes, Gives, Plays}
 use Rattle.mt_file_spec.specs.Vertical.{TextCause, HasCause, AreRead, token_in, tokens_in, past, text_lines, instances_in, Vertical, FirstTextFault}
-use Rattle.mt_vertical.specs.Readers.{State, Kept, Did, IsSound, HasReadLine, Refuses, step, gathered}
+use Rattle.mt_vertical.specs.Readers.{State, Kept, IsSound, HasReadLine, Refuses, step, gathered}
 use Rattle.mt_vertical.proofs.Instances.{Stands_for, none_yet, line_more, gathered_all}
 
 -- ## Places

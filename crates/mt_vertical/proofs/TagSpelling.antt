@@ -1,19 +1,19 @@
 -- Tags: each is read exactly where it is spelled.
-use Rattle.std.proofs.Common.{◌≡◌, ℕ, suc, ◌+◌, ◌<◌, ◌≤◌, inl, inr, Bool, true, false, ◌==◌, ◌&&◌, ◌||◌, if◌then◌else◌, List, [], ◌∷◌, ◌++◌, length, take, drop, get_or, codes, refl, sym, ◌∙◌, ap, subst, arith, append_assoc, Option, None, Some}
+use Rattle.std.proofs.Common.{◌≡◌, ℕ, ◌<◌, Bool, true, false, ◌==◌, if◌then◌else◌, List, [], ◌∷◌, ◌++◌, length, take, drop, get_or, codes, refl, sym, ◌∙◌, ap, subst, arith, append_assoc, Option, None, Some}
 use Rattle.std.specs.Str.{IsUtf8}
-use Rattle.std.specs.List.{All, AllPass, prefix_len, list_all}
+use Rattle.std.specs.List.{AllPass, prefix_len, list_all}
 use Rattle.std.proofs.lemmas.Bool.{and_parts, eqb-true}
 use Rattle.std.proofs.lemmas.Grind.{common_steps}
 use Rattle.std.proofs.lemmas.List.Elements.{All-from_get_or}
 use Rattle.std.proofs.lemmas.List.Sums.{AllPass-from_list_all, list_all-from_AllPass}
 use Rattle.memchr.specs.Find.{Nowhere, Passes, is_byte}
 use Rattle.mt_text_spec.specs.Words.{is_identifier_start}
-use Rattle.mt_file_spec.specs.Tags.{is_space, AreSpaces, differs, IsTag, is_tag_name_byte, IsTagName, TagAttr, SpellsAttrs, Tag, OpeningTag, EmptyTag, ClosingTag, SpellsBegin, SpellsEnd, Spells}
+use Rattle.mt_file_spec.specs.Tags.{is_space, AreSpaces, differs, IsTag, is_tag_name_byte, IsTagName, TagAttr, Tag, OpeningTag, EmptyTag, ClosingTag, SpellsBegin, SpellsEnd, Spells}
 use Rattle.mt_vertical.specs.TagReading.{◌>>=◌, past, starts, behind, identifier_at, tag_name_at, attr_at, ReadsAttrs, ends, tail_at}
 use Rattle.mt_vertical.specs.TagForms.{ReadsBegin, ReadsEnd, begin_form, tag_of, IsBegin, IsEnd, KeepsText, BehindTag, IsFound}
 use Rattle.mt_vertical.proofs.Utf8.{utf8_behind, behind_name}
 use Rattle.mt_vertical.specs.declared.text.tags.Form.{Form}
-use Rattle.mt_vertical.proofs.Steps.{then_some, if_some, same, none_some, some_once, all_tail, all_head, front_of, take_front, left_of, parts, front_passes, some_pass}
+use Rattle.mt_vertical.proofs.Steps.{then_some, if_some, same, none_some, some_once, all_head, front_of, take_front, left_of, parts, front_passes, some_pass}
 use Rattle.mt_vertical.proofs.AttrForms.{behind_gives, behind_back, starts_of, first_taken, attrs_once, attrs_give, attrs_back}
 
 -- ## Names

@@ -1,7 +1,7 @@
 -- The value of an attribute in a tag is that of the first one of its name.
-use Rattle.std.proofs.Common.{◌≡◌, ℕ, Bool, true, false, if◌then◌else◌, List, [], ◌∷◌, refl, sym, ◌∙◌, ap, subst, Option, None, Some}
+use Rattle.std.proofs.Common.{◌≡◌, ℕ, true, false, List, [], ◌∷◌, refl, ◌∙◌, ap, subst, None, Some}
 use Rattle.std.specs.Str.{bytes_eq}
-use Rattle.mt_file_spec.specs.Tags.{TagAttr, tag_value, missing}
+use Rattle.mt_file_spec.specs.Tags.{TagAttr, tag_value}
 use Rattle.mt_vertical.specs.TagReading.{attr_at, ReadsAttrs}
 use Rattle.mt_vertical.proofs.Steps.{same, none_some, some_once}
 

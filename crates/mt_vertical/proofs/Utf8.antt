@@ -1,12 +1,11 @@
 -- Parts of UTF-8 beside an ASCII byte are UTF-8.
-use Rattle.std.proofs.Common.{◌≡◌, ℕ, suc, ◌+◌, ◌<◌, ◌≤◌, inl, inr, Bool, true, false, List, [], ◌∷◌, ◌++◌, length, take, drop, get_or, refl, sym, ◌∙◌, ap, subst, arith, append_assoc, Option, None, Some}
+use Rattle.std.proofs.Common.{◌≡◌, ℕ, suc, ◌+◌, ◌<◌, true, List, [], ◌∷◌, ◌++◌, length, take, drop, get_or, refl, ◌∙◌, ap, subst, arith, append_assoc, Some}
 use Rattle.std.specs.Str.{IsUtf8}
-use Rattle.std.specs.List.{All, AllPass}
+use Rattle.std.specs.List.{AllPass}
 use Rattle.std.proofs.lemmas.Grind.{common_steps}
 use Rattle.std.proofs.lemmas.Str.{IsUtf8-take, IsUtf8-drop, IsCharBoundary-before_ascii, IsCharBoundary-after_ascii, IsUtf8-from_ascii}
-use Rattle.mt_text_spec.specs.Words.{is_identifier_byte}
-use Rattle.mt_file_spec.specs.Tags.{is_space, is_quote, is_tag_name_byte, IsTagName, TagAttr}
-use Rattle.mt_vertical.specs.TagReading.{attr_at, tag_name_at}
+use Rattle.mt_file_spec.specs.Tags.{is_quote, is_tag_name_byte, IsTagName, TagAttr}
+use Rattle.mt_vertical.specs.TagReading.{attr_at}
 use Rattle.mt_vertical.proofs.Steps.{all_tail, all_head}
 use Rattle.mt_vertical.proofs.AttrForms.{attr_gives}
 

@@ -1,22 +1,20 @@
 -- What is read is a valid text.
-use Rattle.std.proofs.Common.{◌≡◌, ◌≢◌, ℕ, zero, suc, ◌+◌, ◌<◌, ◌≤◌, ◌⊎◌, inl, inr, Bool, true, false, ◌==◌, if◌then◌else◌, List, [], ◌∷◌, ◌++◌, length, map, get_or, codes, refl, sym, ◌∙◌, ap, subst, arith, append_assoc, Option, None, Some}
+use Rattle.std.proofs.Common.{◌≡◌, ◌≢◌, ℕ, zero, suc, ◌+◌, ◌<◌, ◌≤◌, inl, inr, Bool, true, false, ◌==◌, if◌then◌else◌, List, [], ◌∷◌, ◌++◌, length, map, codes, refl, sym, ◌∙◌, ap, subst, arith, Some}
 use Rattle.std.specs.Prelude.{slice_get}
-use Rattle.std.specs.List.{All, AllPass, AllPairs}
+use Rattle.std.specs.List.{All, AllPairs}
 use Rattle.std.specs.Str.{IsUtf8}
-use Rattle.std.specs.Str.Lines.{lines}
-use Rattle.std.proofs.lemmas.Bool.{cases_Bool, eqb-true}
-use Rattle.std.proofs.lemmas.Grind.{common_steps}
+use Rattle.std.proofs.lemmas.Bool.{eqb-true}
 use Rattle.std.proofs.lemmas.List.Elements.{All-nil, All-cons, All-head, All-tail, All-append, All-weaker, All-same}
 use Rattle.std.proofs.lemmas.List.Kept.{AllPairs-cons}
 use Rattle.mt_text_spec.specs.Words.{IsName}
-use Rattle.mt_text_spec.specs.Registries.{Registry, Kind, ValidRegistry, base_count}
+use Rattle.mt_text_spec.specs.Registries.{Registry, Kind, base_count}
 use Rattle.mt_text_spec.specs.Texts.{Token, StructSpan, Text, ValidValue, ValidToken, ValidStructSpan, ComesBefore, ValidText, text_limit}
-use Rattle.mt_file_spec.specs.Tags.{differs, TagAttr, Tag, OpeningTag, EmptyTag, tag_value}
+use Rattle.mt_file_spec.specs.Tags.{TagAttr, Tag, OpeningTag, EmptyTag, tag_value}
 use Rattle.mt_file_spec.specs.VerticalLines.{Role, Passes, Opens, Stands, Closes, Gives, Plays, IsDeclared, columns, first_columns}
-use Rattle.mt_file_spec.specs.Vertical.{TextCause, NotUtf8, TooManyTokens, ValueTooLong, HasCause, AreRead, kept, token_in, tokens_in, past, is_tag_of, next_place, begun, instances_from, instances_in, text_lines, without_mark, Vertical}
+use Rattle.mt_file_spec.specs.Vertical.{NotUtf8, TooManyTokens, ValueTooLong, AreRead, kept, token_in, tokens_in, past, is_tag_of, next_place, begun, instances_from, instances_in, text_lines, without_mark, Vertical}
 use Rattle.mt_vertical.specs.Readers.{AreShort}
 use Rattle.mt_vertical.proofs.SoFar.{IsGood, place_after, place_is}
-use Rattle.mt_vertical.proofs.Values.{IsClean, all_left, all_right, lines_free, short_from, text_from, columns_clean, first_len, first_clean, all_valid, tag_clean, values_clean, values_len}
+use Rattle.mt_vertical.proofs.Values.{IsClean, lines_free, short_from, text_from, columns_clean, first_len, first_clean, all_valid, tag_clean, values_clean, values_len}
 
 -- ## One line
 

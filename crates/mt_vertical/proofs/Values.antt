@@ -1,18 +1,18 @@
 -- Values that lines give are valid.
-use Rattle.std.proofs.Common.{◌≡◌, ◌≢◌, ℕ, zero, suc, ◌+◌, ◌<◌, ◌≤◌, ◌⊎◌, inl, inr, Bool, true, false, cond, ◌==◌, if◌then◌else◌, List, [], ◌∷◌, ◌++◌, length, map, take, drop, get_or, ◌-◌, refl, sym, ◌∙◌, ap, subst, arith, append_assoc, Option, None, Some}
-use Rattle.std.specs.List.{All, AllPass, Any, slice_split, onto_first, prefix_len}
+use Rattle.std.proofs.Common.{◌≡◌, ◌≢◌, ℕ, zero, suc, ◌+◌, ◌<◌, ◌≤◌, ◌⊎◌, inl, inr, Bool, true, false, cond, ◌==◌, if◌then◌else◌, List, [], ◌∷◌, ◌++◌, length, map, take, drop, get_or, ◌-◌, refl, sym, ◌∙◌, ap, subst, arith, append_assoc}
+use Rattle.std.specs.List.{All, AllPass, slice_split, onto_first, prefix_len}
 use Rattle.std.specs.Str.{IsUtf8, bytes_eq}
 use Rattle.std.specs.Str.Lines.{lines, lines_of_parts, strip_carriage_return}
-use Rattle.std.proofs.lemmas.Bool.{cases_lt, cases_Bool, false_from_ne_true, true≢false, eqb-true, eq-eqb}
+use Rattle.std.proofs.lemmas.Bool.{cases_lt, true≢false, eqb-true, eq-eqb}
 use Rattle.std.proofs.lemmas.Grind.{common_steps}
 use Rattle.std.proofs.lemmas.List.Elements.{All-nil, All-cons, All-head, All-tail, All-take, All-weaker, All-same, All-from_recursion}
 use Rattle.std.proofs.lemmas.List.{take-append-drop, get_or_past}
 use Rattle.std.proofs.lemmas.List.Splits.{slice_split_at, slice_split_none}
-use Rattle.std.proofs.lemmas.List.Sums.{prefix_len-le-length, prefix_len_stops}
+use Rattle.std.proofs.lemmas.List.Sums.{prefix_len_stops}
 use Rattle.std.proofs.lemmas.Str.{IsUtf8-from_is_utf8, is_utf8-from_IsUtf8, IsUtf8-from_ascii}
 use Rattle.std.specs.Str.{is_utf8}
 use Rattle.mt_text_spec.specs.Texts.{ValidValue}
-use Rattle.mt_file_spec.specs.Tags.{differs, is_quote, IsTagName, is_tag_name_byte, TagAttr, SpellsAttr, SpellsAttrs, tag_value, missing}
+use Rattle.mt_file_spec.specs.Tags.{differs, is_quote, IsTagName, TagAttr, SpellsAttrs, tag_value, missing}
 use Rattle.mt_file_spec.specs.VerticalLines.{columns, first_columns}
 use Rattle.mt_file_spec.specs.Vertical.{value_limit}
 use Rattle.mt_vertical.specs.Readers.{AreShort, HasLong}

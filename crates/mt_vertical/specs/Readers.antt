@@ -1,5 +1,5 @@
 -- What is kept while the lines of a vertical are read: the tokens so far, and for each kind the instances that have ended and the one that is open.
-use Rattle.std.specs.Prelude.{ℕ, ◌≡◌, ◌+◌, ◌<◌, ◌≤◌, ◌==◌, Bool, if◌then◌else◌, List, [], ◌∷◌, ◌++◌, length, slice_index_or, Option, None, Some}
+use Rattle.std.specs.Prelude.{ℕ, ◌≡◌, ◌+◌, ◌<◌, ◌≤◌, ◌==◌, if◌then◌else◌, List, [], ◌∷◌, ◌++◌, length, slice_index_or, Option, None, Some}
 use Rattle.std.specs.List.{All, Any}
 use Rattle.mt_text_spec.specs.Registries.{Registry, base_count}
 use Rattle.mt_text_spec.specs.Texts.{Token, StructSpan, text_limit}

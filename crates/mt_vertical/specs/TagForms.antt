@@ -1,5 +1,5 @@
 -- What the functions that read tags find.
-use Rattle.std.specs.Prelude.{ℕ, ◌≡◌, Bool, true, false, List, [], ◌∷◌, Option, None, Some, IsUtf8}
+use Rattle.std.specs.Prelude.{ℕ, ◌≡◌, Bool, true, false, List, ◌∷◌, Some, IsUtf8}
 use Rattle.mt_file_spec.specs.Tags.{TagAttr, Tag, OpeningTag, EmptyTag, ClosingTag, Spells, IsTag}
 use Rattle.mt_vertical.specs.TagReading.{tag_name_at, tail_at, ReadsAttrs}
 use Rattle.mt_vertical.specs.declared.text.tags.Form.{Form}

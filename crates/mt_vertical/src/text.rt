@@ -49,7 +49,7 @@ impl From<NoMemory> for TextError {
 
 /// The text of this name that the bytes are read as, or the first line that has a cause to refuse them.
 ///
-/// It goes over the bytes once. Beside the lists that grow it takes memory for each value that it keeps and for each token.
+/// It goes over the bytes once. Beside the lists that grow it takes memory for each instance that has values; a token takes none of its own.
 pub fn read_text(
     alloc: Global,
     name: &str,

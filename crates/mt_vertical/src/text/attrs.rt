@@ -17,7 +17,7 @@ pub struct TagAttr<'a> {
 }
 
 /// The value of an attribute that is not there.
-pub const MISSING: &[u8] = b"===NONE===";
+pub const MISSING: &str = "===NONE===";
 
 /// How many spaces stand in front.
 fn spaces_len(bytes: &[u8]) -> usize
@@ -155,5 +155,5 @@ pub fn value_of<'a>(bytes: &'a [u8], name: &[u8]) -> &'a [u8]
         }
         rest = others;
     }
-    MISSING
+    MISSING.as_bytes()
 }

@@ -13,7 +13,7 @@ use super::instances::Instances;
 use super::lines::{self, Line};
 use super::tags::{Form, Tag};
 use super::values::{Fault, column_values, tag_values};
-use mt_base::{Attr, List, NoMemory, Registry, StructSpan, Text, Token, Value};
+use mt_base::{Attr, List, NoMemory, Registry, Strings, StructSpan, Text, Tokens, Value};
 use std::alloc::Global;
 use std::marker::Model;
 use std::str;
@@ -21,18 +21,18 @@ use std::str;
 /// The most tokens of a text.
 const MOST_TOKENS: usize = 1_048_576;
 
-/// The tokens so far, and the instances of each kind.
+/// The tokens so far, and the instances of each kind. The row has the columns of one line, in memory that each line takes anew.
 #[derive(Debug, Drop)]
 pub struct Reader {
-    columns: usize,
-    tokens: List<Token>,
+    tokens: Tokens,
     kinds: Vec<Instances>,
+    row: Strings,
 }
 
 impl Model for Reader {
     ghost Value = { readers.State };
 
-    ghost view = { λ r. record { columns = r.columns; tokens = r.tokens; kinds = r.kinds.items } };
+    ghost view = { λ r. record { columns = r.tokens.columns; tokens = r.tokens.tokens; kinds = r.kinds.items } };
 }
 
 /// How many of these attributes are base attributes.
@@ -55,9 +55,9 @@ impl Reader {
             kinds.push(Instances::new(alloc))?;
         }
         Ok(Reader {
-            columns: base_attrs(registry.attrs().as_slice()),
-            tokens: List::new(alloc),
+            tokens: Tokens::new(alloc, base_attrs(registry.attrs().as_slice())),
             kinds,
+            row: Strings::new(alloc),
         })
     }
 
@@ -76,7 +76,7 @@ impl Reader {
         ensures too_long { result ≡ Err Fault.ValueTooLong → Refuses registry.now self.old line.now TextCause.ValueTooLong }
     {
         match str::from_utf8(line) {
-            Ok(_) => self.read_text_line(alloc, registry, line),
+            Ok(text) => self.read_text_line(alloc, registry, text),
             Err(_) => Err(Fault::NotUtf8),
         }
     }
@@ -86,26 +86,24 @@ impl Reader {
         &mut self,
         alloc: Global,
         registry: &Registry,
-        line: &[u8],
+        line: &str,
     ) -> Result<(), Fault>
         requires valid { ValidRegistry registry.now }
         requires sound { IsSound registry.now self.old }
-        requires text { IsUtf8 line.now }
         ensures ok { OnOk result (HasReadLine registry.now self.old line.now self.new) }
         ensures not_utf8 { result ≡ Err Fault.NotUtf8 → ⊥ }
         ensures too_many { result ≡ Err Fault.TooManyTokens → Refuses registry.now self.old line.now TextCause.TooManyTokens }
         ensures too_long { result ≡ Err Fault.ValueTooLong → Refuses registry.now self.old line.now TextCause.ValueTooLong }
     {
-        match lines::read_line(line) {
+        match lines::read_line(line.as_bytes()) {
             Line::Skipped => Ok(()),
             Line::Tag(tag) => self.read_tag(alloc, registry, tag),
-            Line::Token => self.read_token(alloc, line),
+            Line::Token => self.read_token(line),
         }
     }
 
     /// Reads a line that is a token.
-    fn read_token(&mut self, alloc: Global, line: &[u8]) -> Result<(), Fault>
-        requires { IsUtf8 line.now }
+    fn read_token(&mut self, line: &str) -> Result<(), Fault>
         ensures ok { OnOk result (Did self.old (token_role self.old.columns line.now) self.new) }
         ensures short { OnOk result (AreShort (first_columns self.old.columns (columns line.now))) }
         ensures few { OnOk result (length self.old.tokens ≢ text_limit) }
@@ -116,8 +114,8 @@ impl Reader {
         if self.tokens.len() == MOST_TOKENS {
             return Err(Fault::TooManyTokens);
         }
-        let values = column_values(alloc, self.columns, line)?;
-        self.tokens.push(Token::new(values))?;
+        column_values(self.tokens.columns(), line, &mut self.row)?;
+        self.tokens.push(&self.row)?;
         Ok(())
     }
 

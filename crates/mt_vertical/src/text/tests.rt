@@ -7,9 +7,12 @@ use std::alloc::{AllocError, Global};
 /// A text in one line: its tokens, and behind `;` its instances, as kind, begin, end and values.
 fn shown(alloc: Global, text: &Text) -> Result<String, AllocError> {
     let mut line = String::new(alloc);
-    for token in text.tokens().as_slice() {
+    let tokens = text.tokens();
+    for place in 0..tokens.len() {
         line.push_str("(")?;
-        push_values(&mut line, token.values().as_slice())?;
+        for column in 0..tokens.columns() {
+            push_value(&mut line, tokens.value(place, column))?;
+        }
         line.push_str(")")?;
     }
     for span in text.structs().as_slice() {
@@ -23,11 +26,15 @@ fn shown(alloc: Global, text: &Text) -> Result<String, AllocError> {
 
 fn push_values(line: &mut String, values: &[Value]) -> Result<(), AllocError> {
     for value in values {
-        line.push_str("[")?;
-        line.push_str(value.as_str())?;
-        line.push_str("]")?;
+        push_value(line, value.as_str())?;
     }
     Ok(())
+}
+
+fn push_value(line: &mut String, value: &str) -> Result<(), AllocError> {
+    line.push_str("[")?;
+    line.push_str(value)?;
+    line.push_str("]")
 }
 
 /// Whether the bytes are read as the text that is shown so.

@@ -1,6 +1,6 @@
 //! The values that lines give to their text.
 
-ghost use Rattle.std.specs.Prelude.{◌≡◌, ℕ, ◌<◌, ◌≤◌, ◌+◌, ◌∷◌, List as Items, length, map, option_map, IsUtf8, IfOk, IfSome};
+ghost use Rattle.std.specs.Prelude.{◌≡◌, ℕ, ◌<◌, ◌≤◌, ◌+◌, ◌∷◌, ◌++◌, [], List as Items, length, map, option_map, IsUtf8, IfOk, OnOk};
 ghost use Rattle.mt_file_spec.specs.Tags.{TagAttr as SpelledAttr, tag_value};
 ghost use Rattle.mt_file_spec.specs.Vertical.{value_limit};
 ghost use Rattle.mt_file_spec.specs.VerticalLines.{columns, first_columns};
@@ -9,7 +9,7 @@ ghost use Rattle.mt_vertical.specs.TagReading.{ReadsAttrs};
 
 use super::attrs::{MISSING, value_of};
 use memchr::memchr;
-use mt_base::{Kind, List, NoMemory, Value};
+use mt_base::{Kind, List, NoMemory, Strings, Value};
 use std::alloc::Global;
 use std::str;
 
@@ -57,48 +57,57 @@ fn keep(alloc: Global, bytes: &[u8]) -> Result<Value, Fault>
     Ok(Value::new(alloc, text)?)
 }
 
-/// The first column, and what follows its tab, if there is one.
-fn split_column(bytes: &[u8]) -> (&[u8], Option<&[u8]>)
-    ensures columns { columns bytes.now ≡ result.0.now ∷ columns_left (option_map (λ rest. rest.now) result.1) }
-    ensures text { IsUtf8 bytes.now → IsUtf8 result.0.now }
-    ensures text_left { IsUtf8 bytes.now → IfSome result.1 (λ rest. IsUtf8 rest.now) }
+/// Adds a value to the row.
+fn push_short(row: &mut Strings, text: &str) -> Result<(), Fault>
+    ensures ok { OnOk result (row.new ≡ row.old ++ text.now ∷ []) }
+    ensures short { OnOk result (length text.now ≤ value_limit) }
+    ensures long { result ≡ Err Fault.ValueTooLong → value_limit < length text.now }
+    ensures other { result ≡ Err Fault.NotUtf8 → ⊥ }
+    ensures no_other { result ≡ Err Fault.TooManyTokens → ⊥ }
 {
-    match memchr(b'\t', bytes) {
-        Some(at) => (&bytes[..at], Some(&bytes[at + 1..])),
-        None => (bytes, None),
+    if text.len() > LONGEST {
+        return Err(Fault::ValueTooLong);
+    }
+    row.push(text)?;
+    Ok(())
+}
+
+/// The first column, and what follows its tab, if there is one.
+fn split_column(text: &str) -> (&str, Option<&str>)
+    ensures { columns text.now ≡ result.0.now ∷ columns_left (option_map (λ rest. rest.now) result.1) }
+{
+    match memchr(b'\t', text.as_bytes()) {
+        Some(at) => (&text[..at], Some(&text[at + 1..])),
+        None => (text, None),
     }
 }
 
-/// The first columns of a line, so many.
-pub fn column_values(alloc: Global, count: usize, line: &[u8]) -> Result<List<Value>, Fault>
-    requires { IsUtf8 line.now }
-    ensures ok { IfOk result (λ values. values ≡ first_columns count (columns line.now)) }
-    ensures short { IfOk result (λ values. AreShort values) }
+/// The next column, or the value of one that is not there.
+fn next_column<'a>(left: Option<&'a str>) -> (&'a str, Option<&'a str>)
+    ensures { (n : ℕ) → first_columns (n + 1) (columns_left (option_map (λ text. text.now) left.entry)) ≡ result.0.now ∷ first_columns n (columns_left (option_map (λ rest. rest.now) result.1)) }
+{
+    match left {
+        Some(text) => split_column(text),
+        None => (MISSING, None),
+    }
+}
+
+/// Makes the row the first columns of a line, so many.
+pub fn column_values(count: usize, line: &str, row: &mut Strings) -> Result<(), Fault>
+    ensures ok { OnOk result (row.new ≡ first_columns count (columns line.now)) }
+    ensures short { OnOk result (AreShort row.new) }
     ensures long { result ≡ Err Fault.ValueTooLong → HasLong (first_columns count (columns line.now)) }
     ensures other { result ≡ Err Fault.NotUtf8 → ⊥ }
     ensures no_other { result ≡ Err Fault.TooManyTokens → ⊥ }
 {
-    let mut values = List::with_capacity(alloc, count)?;
+    row.clear();
     let mut left = Some(line);
     for _ in 0..count {
         let (column, others) = next_column(left);
-        values.push(keep(alloc, column)?)?;
+        push_short(row, column)?;
         left = others;
     }
-    Ok(values)
-}
-
-/// The next column, or the value of one that is not there.
-fn next_column<'a>(left: Option<&'a [u8]>) -> (&'a [u8], Option<&'a [u8]>)
-    requires { IfSome left (λ bytes. IsUtf8 bytes.now) }
-    ensures columns { (n : ℕ) → first_columns (n + 1) (columns_left (option_map (λ bytes. bytes.now) left.entry)) ≡ result.0.now ∷ first_columns n (columns_left (option_map (λ rest. rest.now) result.1)) }
-    ensures text { IsUtf8 result.0.now }
-    ensures text_left { IfSome result.1 (λ rest. IsUtf8 rest.now) }
-{
-    match left {
-        Some(bytes) => split_column(bytes),
-        None => (MISSING, None),
-    }
+    Ok(())
 }
 
 /// The values of the attributes of a kind, of those in a tag.

@@ -1,4 +1,4 @@
-use Rattle.std.proofs.Common.{refl, sym, ◌∙◌, ap}
+use Rattle.std.proofs.Common.{sym, ◌∙◌, ap}
 use Rattle.mt_file_spec.specs.Tags.{tag_value}
 use Rattle.mt_vertical.proofs.text.attrs.value_of.Goals as goal
 use Rattle.mt_vertical.proofs.AttrForms.{attr_takes}
@@ -29,4 +29,4 @@ returns-then-eq c = record {
 pub returns-clause-value : goal.returns-clause-value
 returns-clause-value c = λ attrs rest r.
     let i = c.loop-attr.invariant.left attrs rest r in
-    sym (i.2 ∙ ap (λ all. tag_value all c.args.name.now) (none_follows _ i.0 rest (sym c.in_default.ensures) i.1))
+    c.as_bytes.ensures.value ∙ sym (i.2 ∙ ap (λ all. tag_value all c.args.name.now) (none_follows _ i.0 rest (sym c.in_default.ensures) i.1))

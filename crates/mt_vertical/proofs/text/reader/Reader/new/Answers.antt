@@ -1,4 +1,3 @@
-use Rattle.std.proofs.Common.{sym, ◌∙◌, ap}
 use Rattle.mt_vertical.proofs.text.reader.Reader.new.Goals as goal
 use Rattle.mt_vertical.proofs.Filled.{copy_push}
 

@@ -1,7 +1,7 @@
 use Rattle.std.proofs.Common.{arith, ap, length}
 use Rattle.std.specs.Prelude.{string_bytes}
-use Rattle.mt_lexicon.proofs.Blocks.{length-pieces}
-use Rattle.mt_lexicon.proofs.strings.Strings.get.Goals as goal
+use Rattle.mt_base.proofs.Blocks.{length-pieces}
+use Rattle.mt_base.proofs.strings.Strings.get.Goals as goal
 
 pub piece-requires : goal.piece-requires
 piece-requires c = record {

@@ -1,9 +1,10 @@
 //! Many texts in one block.
 
-ghost use Rattle.std.specs.Prelude.{◌≡◌, ◌<◌, [], ◌∷◌, ◌++◌, length, slice_get, slice_index, Some, OnOk, OnErr};
-ghost use Rattle.mt_lexicon.specs.Pieces.{pieces, AreEnds};
+ghost use Rattle.std.specs.Prelude.{◌≡◌, ◌+◌, ◌^◌, ◌<◌, ◌≤◌, [], ◌∷◌, ◌++◌, length, map, take, nat_eq, slice_get, slice_index, Some, OnOk, OnErr};
+ghost use Rattle.std.specs.List.{All};
+ghost use Rattle.mt_base.specs.Pieces.{pieces, AreEnds};
 
-use mt_base::NoMemory;
+use super::NoMemory;
 use std::alloc::Global;
 use std::marker::Model;
 
@@ -16,7 +17,7 @@ pub struct Strings {
 
 impl Model for Strings {
     ghost use Rattle.std.specs.Prelude.{ℕ, List, string_bytes};
-    ghost use Rattle.mt_lexicon.specs.Pieces.{pieces, AreEnds};
+    ghost use Rattle.mt_base.specs.Pieces.{pieces, AreEnds};
 
     ghost Value = { List (List ℕ) };
 
@@ -43,12 +44,27 @@ impl Strings {
         self.ends.len()
     }
 
+    /// Whether there is none.
+    pub fn is_empty(&self) -> bool
+        ensures { result ≡ nat_eq (length self.now) 0 }
+    {
+        self.len() == 0
+    }
+
     /// The text at a place, counted from 0.
     pub fn get(&self, place: usize) -> &str
         requires { place < length self.now }
         ensures { slice_get self.now place ≡ Some result.now }
     {
         piece(self.block.as_str(), self.ends.as_slice(), place)
+    }
+
+    /// Takes all texts away, and keeps the memory for others.
+    pub fn clear(&mut self)
+        ensures { self.new ≡ [] }
+    {
+        self.block.clear();
+        self.ends.clear();
     }
 
     /// Adds a text at the end. Without memory nothing changes.
@@ -65,6 +81,39 @@ impl Strings {
             }
         }
     }
+
+    /// Adds all of the other texts at the end. Without memory nothing changes.
+    pub fn append(&mut self, other: &Strings) -> Result<(), NoMemory>
+        ensures ok { OnOk result (self.new ≡ self.old ++ other.now) }
+        ensures err { OnErr result (self.new ≡ self.old) }
+    {
+        let count = self.ends.len();
+        let from = self.block.as_str().len();
+        let others = other.block.as_str();
+        if let Err(NoMemory) = push_ends(&mut self.ends, from, other.ends.as_slice()) {
+            self.ends.truncate(count);
+            return Err(NoMemory);
+        }
+        match self.block.push_str(others) {
+            Ok(()) => Ok(()),
+            Err(_) => {
+                self.ends.truncate(count);
+                Err(NoMemory)
+            }
+        }
+    }
+}
+
+/// Adds the ends of texts that lie from this place on. Without memory some of them may have been added.
+fn push_ends(ends: &mut Vec<usize>, from: usize, others: &[usize]) -> Result<(), NoMemory>
+    requires { All (λ end. from + end < 2 ^ 64) others.now }
+    ensures ok { OnOk result (ends.new.items ≡ ends.old.items ++ map (λ end. from + end) others.now) }
+    ensures err { OnErr result (take (length ends.old.items) ends.new.items ≡ ends.old.items) }
+{
+    for end in others {
+        ends.push(from + *end)?;
+    }
+    Ok(())
 }
 
 /// The piece of a block with this number.

@@ -1,7 +1,7 @@
 use Rattle.std.proofs.Common.{sym, ◌≡◌, get_or, ◌∷◌, ◌<◌, subst, ℕ}
 use Rattle.std.specs.Str.{IsCharBoundary}
-use Rattle.mt_lexicon.proofs.Blocks.{end_at, start_at, piece_at}
-use Rattle.mt_lexicon.proofs.strings.piece.Goals as goal
+use Rattle.mt_base.proofs.Blocks.{end_at, start_at, piece_at}
+use Rattle.mt_base.proofs.strings.piece.Goals as goal
 
 pub range-requires : goal.range-requires
 range-requires c =
