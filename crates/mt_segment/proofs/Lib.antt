@@ -1,5 +1,6 @@
 pub mod Assembled
 pub mod Determined
+pub mod Halfway
 pub mod Known
 pub mod Mappings
 pub mod Numbered
