@@ -9,7 +9,7 @@ use mir.Val.{bool_byte}
 use Rattle.mt_text_spec.specs.Registries.{Registry, Attr, ValidRegistry, ValidAttr, IsBaseAt, base_attr, column_of, is_base}
 use Rattle.mt_text_spec.specs.Texts.{Text, total_tokens, tokens_limit}
 use Rattle.mt_lexicon.proofs.Renumbered.{numbers_within}
-use Rattle.mt_mapper.specs.Calls.{counted, CountedAtMost}
+use Rattle.mt_mapper.specs.Calls.{counted}
 use Rattle.mt_mapper.proofs.Counts.{counted_more}
 use Rattle.mt_segment_spec.specs.Tables.{AttrTables, Instance, AreAttrTables, AreTablesOf, attr_at, attr_values, base_values, column_values, heads_of, made_of, tables_at}
 use Rattle.mt_segment.specs.Building.{AreAllMapped, AreBaseTables, AreInstances, AreUsable, HasBase, IsMappedAt, attr_of}

@@ -1,12 +1,12 @@
 -- Texts have one list of tables.
 use Rattle.std.proofs.Common.{◌≡◌, ℕ, ◌<◌, ◌≤◌, List, [], length, map, get_or, slice_get, Option, None, Some, refl, sym, ◌∙◌, ap, subst, arith, ◌⊎◌, inl, inr}
-use Rattle.std.specs.List.{All, Contains}
+use Rattle.std.specs.List.{Contains}
 use Rattle.std.proofs.lemmas.Bool.{cases_lt}
 use Rattle.std.proofs.lemmas.List.{length-map, same_lists, get_or_default, get_or_past}
 use Rattle.std.proofs.lemmas.List.Elements.{All-contains}
 use Rattle.std.proofs.lemmas.Option.{slice_get-get_or, slice_get_within}
 use Rattle.mt_text_spec.specs.Registries.{Registry}
-use Rattle.mt_text_spec.specs.Texts.{Text, ValidCorpus, total_tokens}
+use Rattle.mt_text_spec.specs.Texts.{Text, total_tokens}
 use Rattle.mt_store_spec.specs.Positions.{ArePositions}
 use Rattle.mt_store_spec.specs.Lexicons.{IsAscending, Renumbers}
 use Rattle.mt_lexicon.proofs.Lexicons.{one_lexicon}

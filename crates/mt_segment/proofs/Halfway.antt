@@ -1,9 +1,9 @@
 -- Calls where memory is wanted half-way.
-use Rattle.std.proofs.Common.{◌≡◌, ℕ, suc, ◌<◌, ◌==◌, List, [], ◌∷◌, length, map, get_or, sum, Option, None, Some, Result, Ok, Err, OnErr, refl, sym, ◌∙◌, ap, ap₂, subst, arith, if◌then◌else◌}
+use Rattle.std.proofs.Common.{◌≡◌, ℕ, suc, ◌<◌, ◌==◌, List, [], ◌∷◌, length, map, get_or, sum, Option, None, Some, Result, Ok, Err, OnErr, refl, sym, ap, ap₂, subst, arith, if◌then◌else◌}
 use Rattle.std.specs.List.{All}
 use Rattle.mt_text_spec.specs.Registries.{Registry, Attr}
 use Rattle.mt_text_spec.specs.Texts.{Text}
-use Rattle.mt_mapper.specs.Calls.{counted, CountedAtMost}
+use Rattle.mt_mapper.specs.Calls.{CountedAtMost}
 use Rattle.mt_mapper.proofs.Counts.{counted_none}
 use Rattle.mt_lexicon.proofs.Lexicons.{one_lexicon}
 use Rattle.mt_segment_spec.specs.Tables.{AttrTables, Tables, AreTablesOf, attr_at, attr_values, base_values, made_of, tables_at}

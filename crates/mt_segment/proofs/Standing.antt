@@ -5,8 +5,7 @@ use Rattle.std.proofs.lemmas.List.{length-map, get_or-map}
 use Rattle.std.proofs.lemmas.Option.{slice_get-get_or, slice_get-map, slice_get_within, get_or_from_slice_get}
 use Rattle.mt_text_spec.specs.Registries.{Registry, Attr, ValidRegistry, ValidAttr, IsBaseAt, base_attr}
 use Rattle.mt_text_spec.specs.Texts.{Text}
-use Rattle.mt_lexicon.proofs.Renumbered.{numbers_within}
-use Rattle.mt_segment_spec.specs.Tables.{Tables, AreTablesOf, attr_at, attr_values, base_values, made_of, number_by, tables_at, token_count}
+use Rattle.mt_segment_spec.specs.Tables.{Tables, AreTables, AreTablesOf, attr_at, attr_values, base_values, made_of, number_at, number_by, tables_at, token_count}
 use Rattle.mt_segment.specs.Laws.{NumbersStandForValues}
 use Rattle.mt_segment.proofs.Known.{column_is, table_is, length-attr_values}
 
@@ -59,3 +58,11 @@ stand_for_values images registry corpus tables valid are attr place l m = by (ta
         slice_get (tables_at tables.attrs attr).lexicon (number_by (tables_at tables.attrs attr).numbers tables.attrs place base) ≡ Some (get_or (attr_values images registry corpus attr) place [])
     by None none = at_base images registry corpus tables valid are attr place l none m
     by (Some base) some = at_mapped images registry corpus tables valid are attr base place l some m
+
+-- so it is one of the lexicon's
+pub number_low : (tables : Tables) → AreTables tables → (attr place number : ℕ) → number ≡ number_at tables attr place → attr < length tables.attrs → place < token_count tables → number < length (tables_at tables.attrs attr).lexicon
+number_low tables known attr place number e l m =
+    let under = known.under in
+    rw e
+    (slice_get_within (tables_at tables.attrs attr).lexicon (number_at tables attr place) (get_or (attr_values under.images known.registry under.corpus attr) place [])
+    (stand_for_values under.images known.registry under.corpus tables under.valid under.are attr place l m))

@@ -17,6 +17,7 @@ mod structs;
 mod table;
 
 pub use laws::{have_one_tables, numbers_stand_for_values};
+pub use mapped::has_mappers;
 pub use segment::Segment;
 pub use structs::SegStruct;
 pub use table::MappedTable;
