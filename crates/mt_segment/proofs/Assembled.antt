@@ -14,7 +14,7 @@ use Rattle.mt_mapper.proofs.Counts.{counted_more}
 use Rattle.mt_segment_spec.specs.Tables.{AttrTables, Instance, AreAttrTables, AreTablesOf, attr_at, attr_values, base_values, column_values, heads_of, made_of, tables_at}
 use Rattle.mt_segment.specs.Building.{AreAllMapped, AreBaseTables, AreInstances, AreUsable, HasBase, IsMappedAt, attr_of}
 use Rattle.mt_segment.specs.Ends.{AreFirstEnds}
-use Rattle.mt_segment.specs.Mappers.{AreCounted, AreMapped, calls_due, calls_of}
+use Rattle.mt_segment.specs.Mappers.{AreCounted, AreCountedAtMost, AreMapped, calls_due, calls_of}
 use Rattle.mt_segment.proofs.Mappings.{mapped_made}
 use Rattle.mt_segment.proofs.Valued.{length-column_values}
 
@@ -161,6 +161,22 @@ module _ (images : List ℕ → List ℕ → List ℕ) (attrs : List Attr) (old 
         ∙ ap₂ ◌+◌ (sym (sum-map (λ (a : Attr). calls_of names old m a.mapper a.base) (take number attrs))) (ap (λ (a : Attr). calls_of names old m a.mapper a.base) (sym is) ∙ sym (calls_same names m)) in
         f.at m (omega (arith, g.count)) ∙ ap (λ (n : ℕ). counted n (calls_of names now m attr.mapper attr.base)) (g.at m low)
         ∙ counted_more (get_or first m 0) (calls_due names old (take number attrs) m) (calls_of names now m attr.mapper attr.base) ∙ ap (counted (get_or first m 0)) (sym due);
+  }
+
+  -- where memory is wanted while this attribute is mapped
+  pub calls_part : (names : List (List ℕ)) (first before after : List ℕ) → AreCounted (calls_due names old (take number attrs)) first before → AreCountedAtMost (λ m. calls_of names now m attr.mapper attr.base) before after →
+      AreCountedAtMost (calls_due names old attrs) first after
+  calls_part names first before after g f = record {
+    count = f.count ∙ g.count;
+    at = λ m low.
+        let calls : Attr → ℕ = λ a. calls_of names old m a.mapper a.base in
+        let part = f.at m (omega (arith, g.count)) in
+        let here : calls_of names now m attr.mapper attr.base ≡ calls (get_or attrs number attr) = calls_same names m ∙ ap calls is in
+        record {
+          more = calls_due names old (take number attrs) m + part.more;
+          few = omega (arith, part.few, here, sum-map calls (take number attrs), sum-map calls attrs, sum_by_more_le calls attrs number attr l);
+          are = part.are ∙ ap (λ (n : ℕ). counted n part.more) (g.at m low) ∙ counted_more (get_or first m 0) (calls_due names old (take number attrs) m) part.more;
+        };
   }
 
 -- ---- all tables

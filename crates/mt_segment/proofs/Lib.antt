@@ -1,7 +1,10 @@
 pub mod Assembled
+pub mod Determined
+pub mod Halfway
 pub mod Known
 pub mod Mappings
 pub mod Numbered
 pub mod Parted
 pub mod Slots
+pub mod Standing
 pub mod Valued

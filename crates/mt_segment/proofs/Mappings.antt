@@ -1,17 +1,18 @@
 -- Mappers by name, and tables that come of images.
-use Rattle.std.proofs.Common.{◌≡◌, ℕ, suc, ◌+◌, ◌<◌, ◌≤◌, ◌==◌, Bool, true, false, not, cond, List, [], ◌∷◌, ◌++◌, length, map, take, get_or, set, slice_get, None, Some, refl, sym, ◌∙◌, ap, ap₂, subst, arith, ◌⊎◌, inl, inr, if◌then◌else◌, true≢false}
+use Rattle.std.proofs.Common.{◌≡◌, ℕ, suc, ◌+◌, ◌<◌, ◌≤◌, ◌==◌, Bool, true, false, not, cond, List, [], ◌∷◌, ◌++◌, length, map, take, get_or, set, slice_get, None, Some, refl, sym, ◌∙◌, ap, ap₂, subst, arith, ◌⊎◌, inl, inr, if◌then◌else◌, true≢false, ◌↔◌, IsTrue}
 use Rattle.std.specs.List.{All, Contains}
 use Rattle.std.specs.Option.{option_map}
 use Rattle.std.specs.Str.{bytes_eq}
 use Rattle.std.specs.Cmp.Lexicographic.{bytes_decides}
 use Rattle.std.proofs.lemmas.Bool.{cases_lt, cases_eq}
 use Rattle.std.proofs.lemmas.Bool.Decides.{nat_tests}
-use Rattle.std.proofs.lemmas.List.{length-map, length-set, map-set, map_more, get_or-map, get_or-set_same, get_or-set_other, get_or_default}
+use Rattle.std.proofs.lemmas.List.{length-map, length-set, map-set, map_more, get_or-map, get_or-set_same, get_or-set_other, get_or_default, take_all}
 use Rattle.std.proofs.lemmas.Simd.{map-map}
 use Rattle.std.proofs.Math.Seq.{map-set_same}
-use Rattle.std.proofs.lemmas.List.Elements.{All-from_get_or}
+use Rattle.std.proofs.lemmas.List.Elements.{All-from_get_or, All-more}
 use Rattle.std.proofs.lemmas.List.Sums.{position_or_len_is}
 use Rattle.std.proofs.lemmas.Option.{slice_get_within, slice_get-map, get_or_from_slice_get}
+use Rattle.mt_text_spec.specs.Registries.{Attr}
 use Rattle.mt_store_spec.specs.Lexicons.{IsLexiconOf, Renumbers}
 use Rattle.mt_lexicon.specs.Joins.{renumbered}
 use Rattle.mt_lexicon.proofs.Renumbered.{numbers_within, renumbers_then}
@@ -47,6 +48,11 @@ module _ {M : Type 0} (called : M → List ℕ) where
       sym (position_or_len_is (bytes_eq name) (map called mappers) at [] (omega (arith, length-map mappers called)) h
       (λ m. ap (bytes_eq name) (get_or-map called mappers at mapper [] l ∙ ap called (sym e) ∙ sym is) ∙ same))
 
+  pub is_there : (mappers : List M) (name : List ℕ) (at : ℕ) (mapper : M) (its : List ℕ) → at < length mappers → mapper ≡ get_or mappers at mapper → its ≡ called mapper → bytes_eq name its ≡ true → Contains (map called mappers) name
+  is_there mappers name at mapper its l e is same =
+      let one : name ≡ its = (bytes_decides name its).0 same in
+      (at, omega (arith, length-map mappers called), get_or-map called mappers at mapper name l ∙ ap called (sym e) ∙ sym is ∙ sym one)
+
   pub none_there : (mappers : List M) (name : List ℕ) (many : ℕ) → HaveNot mappers name many → length mappers ≤ many → Contains (map called mappers) name → ⊥
   none_there mappers name many h l (k, m, e) =
       let at : get_or (map called mappers) k [] ≡ name = get_or_default (map called mappers) k [] name m ∙ e in
@@ -78,6 +84,20 @@ module _ {M : Type 0} (called : M → List ℕ) where
       let first : List ℕ × (List ℕ → List ℕ) → List ℕ = λ p. p.0 in
       let it : M → List ℕ × (List ℕ → List ℕ) = λ mapper. (called mapper, image mapper) in
       sym (map-map first it mappers) ∙ ap (map first) e ∙ map-map first it others
+
+-- ---- whether all attributes pass a test
+
+module _ (P : Attr → Type 0) (attrs read : List Attr) (e : read ≡ attrs) (i : ℕ) where
+  pub one_fails : (attr : Attr) (b : Bool) → i < length read → attr ≡ get_or read i attr → (P attr → IsTrue b) → b ≡ false → (IsTrue false ↔ All P attrs)
+  one_fails attr b l is holds fails =
+      (λ h. absurd cc, λ all. sym fails ∙ holds (subst P (sym is) (subst (λ (xs : List Attr). All P xs) (sym e) all i attr l)))
+
+  pub one_passes : (attr : Attr) → i < length read → attr ≡ get_or read i attr → All P (take i attrs) → P attr → All P (take (i + 1) attrs)
+  one_passes attr l is so_far holds =
+      subst (λ (xs : List Attr). All P (take (i + 1) xs)) e (All-more P read i attr l (subst (λ (xs : List Attr). All P (take i xs)) (sym e) so_far) (subst P is holds))
+
+  pub all_pass : length read ≤ i → All P (take i attrs) → (IsTrue true ↔ All P attrs)
+  all_pass l so_far = (λ h. subst (λ (xs : List Attr). All P xs) (take_all i attrs (omega (arith, ap length e))) so_far, λ all. refl)
 
 -- ---- calls
 

@@ -22,9 +22,13 @@ abbrev pub image_by : List (List ℕ × (List ℕ → List ℕ)) → List ℕ �
 image_by [] name = λ value. []
 image_by (mapper ∷ mappers) name = if bytes_eq name mapper.0 then mapper.1 else image_by mappers name
 
--- the mapper of each mapped attribute is there
+-- the mapper of an attribute is there, if it is a mapped one
+abbrev pub IsThere : List (List ℕ) → Attr → Type 0
+IsThere names attr = (base : ℕ) → attr.base ≡ Some base → Contains names attr.mapper
+
+-- and of each attribute
 abbrev pub AreThere : List (List ℕ) → List Attr → Type 0
-AreThere names attrs = All (λ attr. (base : ℕ) → attr.base ≡ Some base → Contains names attr.mapper) attrs
+AreThere names attrs = All (IsThere names) attrs
 
 -- how often an attribute with this mapper's name and this base calls the mapper with this number: once for each distinct value of its base, where it is its own
 abbrev pub calls_of : List (List ℕ) → List AttrTables → ℕ → List ℕ → Option ℕ → ℕ

@@ -1,13 +1,14 @@
 //! Building a segment.
 
-ghost use Rattle.std.specs.Prelude.{◌≡◌, ℕ, ◌<◌, ◌≤◌, None, Some, length, map, sum, IfOk, OnOk};
+ghost use Rattle.std.specs.Prelude.{◌≡◌, ℕ, ◌<◌, ◌≤◌, None, Some, length, map, sum, IfOk, OnOk, OnErr};
 ghost use Rattle.std.specs.List.{All, Contains};
 ghost use Rattle.mt_text_spec.specs.Registries.{ValidRegistry, base_count};
 ghost use Rattle.mt_text_spec.specs.Texts.{ValidCorpus, text_limit, texts_limit, tokens_limit, total_tokens};
+ghost use Rattle.mt_segment_spec.specs.Tables as spec;
 ghost use Rattle.mt_segment_spec.specs.Tables.{AreAttrTables, AreTablesOf, column_values, heads_of, tables_at};
 ghost use Rattle.mt_segment.specs.Building.{AreAllMapped, AreBaseTables, AreInstances, AreUsable, HasBase, IsMappedAt};
 ghost use Rattle.mt_segment.specs.Ends.{AreEndsOf};
-ghost use Rattle.mt_segment.specs.Mappers.{AreCounted, AreThere, calls_due, calls_of, image_by, named};
+ghost use Rattle.mt_segment.specs.Mappers.{AreCounted, AreCountedAtMost, AreThere, calls_due, calls_of, image_by, named};
 ghost use Rattle.mt_segment.specs.Parts.{HaveColumn};
 
 use super::columns::base_tables;
@@ -22,6 +23,7 @@ use std::alloc::Global;
 
 impl Segment {
     /// The segment of these texts under a registry, by the mappers that it names. Each mapped attribute calls its mapper once for each distinct value of its base.
+    /// Where memory is wanted half-way, no mapper was called more often than that.
     pub fn build<M: Mapper>(
         alloc: Global,
         texts: &[Text],
@@ -35,6 +37,7 @@ impl Segment {
         ensures tables { IfOk result (λ segment. AreTablesOf (image_by (named M.called M.image mappers.old)) registry.now texts.now segment) }
         ensures same { named M.called M.image mappers.new ≡ named M.called M.image mappers.old }
         ensures calls { IfOk result (λ segment. AreCounted (calls_due (map M.called mappers.old) segment.attrs registry.now.attrs) (map M.calls mappers.old) (map M.calls mappers.new)) }
+        ensures halfway { OnErr result ((t : spec.Tables) → AreTablesOf (image_by (named M.called M.image mappers.old)) registry.now texts.now t → AreCountedAtMost (calls_due (map M.called mappers.old) t.attrs registry.now.attrs) (map M.calls mappers.old) (map M.calls mappers.new)) }
     {
         let heads = heads(alloc, texts)?;
         let ends = ends(alloc, heads.as_slice())?;
@@ -136,6 +139,7 @@ fn map_all<M: Mapper>(
     ensures tables { OnOk result (AreAllMapped (image_by (named M.called M.image mappers.old)) attrs.now tables.old tables.new (length attrs.now)) }
     ensures same { named M.called M.image mappers.new ≡ named M.called M.image mappers.old }
     ensures calls { OnOk result (AreCounted (calls_due (map M.called mappers.old) tables.old attrs.now) (map M.calls mappers.old) (map M.calls mappers.new)) }
+    ensures halfway { OnErr result (AreCountedAtMost (calls_due (map M.called mappers.old) tables.old attrs.now) (map M.calls mappers.old) (map M.calls mappers.new)) }
 {
     for (number, attr) in attrs.iter().enumerate() {
         map_attr(alloc, number, attr, tables, mappers)?;
@@ -158,6 +162,7 @@ fn map_attr<M: Mapper>(
     ensures tables { OnOk result (IsMappedAt (image_by (named M.called M.image mappers.old) attr.now.mapper) attr.now.base number tables.old tables.new) }
     ensures same { named M.called M.image mappers.new ≡ named M.called M.image mappers.old }
     ensures calls { OnOk result (AreCounted (λ m. calls_of (map M.called mappers.old) tables.old m attr.now.mapper attr.now.base) (map M.calls mappers.old) (map M.calls mappers.new)) }
+    ensures halfway { OnErr result (AreCountedAtMost (λ m. calls_of (map M.called mappers.old) tables.old m attr.now.mapper attr.now.base) (map M.calls mappers.old) (map M.calls mappers.new)) }
 {
     let Some(base) = attr.base() else {
         return Ok(());

@@ -8,6 +8,7 @@ mod building;
 mod columns;
 mod inverting;
 mod joining;
+mod laws;
 mod mapped;
 mod numbering;
 mod queue;
@@ -15,6 +16,8 @@ mod segment;
 mod structs;
 mod table;
 
+pub use laws::{have_one_tables, numbers_stand_for_values};
+pub use mapped::has_mappers;
 pub use segment::Segment;
 pub use structs::SegStruct;
 pub use table::MappedTable;

@@ -1,15 +1,15 @@
 //! The tables of mapped attributes.
 
-ghost use Rattle.std.specs.Prelude.{◌≡◌, ◌<◌, ◌==◌, length, map, if◌then◌else◌, IfOk, OnOk, OnErr, IfSome, IfNone};
+ghost use Rattle.std.specs.Prelude.{◌≡◌, ◌<◌, ◌==◌, length, map, if◌then◌else◌, IfOk, OnOk, OnErr, IfSome, IfNone, IsTrue, ◌↔◌};
 ghost use Rattle.std.specs.List.{All, Contains};
 ghost use Rattle.mt_lexicon.specs.Joins.{renumbered};
 ghost use Rattle.mt_mapper.specs.Calls.{counted, CountedAtMost};
-ghost use Rattle.mt_segment.specs.Mappers.{AreMade, AreMapped, AreCounted, AreCountedAtMost, image_by, named, number_of};
+ghost use Rattle.mt_segment.specs.Mappers.{AreMade, AreMapped, AreCounted, AreCountedAtMost, AreThere, IsThere, image_by, named, number_of};
 
 use super::inverting::postings_of;
 use super::numbering::Numbering;
 use super::table::{AttrTables, MappedTable};
-use mt_base::NoMemory;
+use mt_base::{Attr, NoMemory, Registry};
 use mt_lexicon::Lexicon;
 use mt_mapper::Mapper;
 use std::alloc::Global;
@@ -18,6 +18,7 @@ use std::alloc::Global;
 fn find<M: Mapper>(mappers: &[M], name: &str) -> Option<usize>
     ensures found { IfSome result (λ at. at ≡ number_of (map M.called mappers.now) name.now) }
     ensures within { IfSome result (λ at. at < length mappers.now) }
+    ensures there { IfSome result (λ _. Contains (map M.called mappers.now) name.now) }
     ensures none { IfNone result (¬ Contains (map M.called mappers.now) name.now) }
 {
     for (at, mapper) in mappers.iter().enumerate() {
@@ -26,6 +27,28 @@ fn find<M: Mapper>(mappers: &[M], name: &str) -> Option<usize>
         }
     }
     None
+}
+
+/// Whether the mapper of each mapped attribute is among these.
+pub fn has_mappers<M: Mapper>(registry: &Registry, mappers: &[M]) -> bool
+    ensures { IsTrue result ↔ AreThere (map M.called mappers.now) registry.now.attrs }
+{
+    for attr in registry.attrs().as_slice() {
+        if !has_mapper(attr, mappers) {
+            return false;
+        }
+    }
+    true
+}
+
+/// Whether an attribute is no mapped one, or its mapper is among these.
+fn has_mapper<M: Mapper>(attr: &Attr, mappers: &[M]) -> bool
+    ensures { IsTrue result ↔ IsThere (map M.called mappers.now) attr.now }
+{
+    match attr.base() {
+        None => true,
+        Some(_) => find(mappers, attr.mapper().as_str()).is_some(),
+    }
 }
 
 /// The tables of the attribute whose base has this number and these tables, by the mapper of this name. It is called once for each distinct value of the base,

@@ -93,9 +93,20 @@ impl Segment {
         requires attr { attr < length self.now.attrs }
         requires pos { pos < token_count self.now }
         ensures number { result ≡ number_at self.now attr pos }
+        ensures within { result < length (tables_at self.now.attrs attr).lexicon }
         ensures tick { steps.new ≡ steps.old + 1 }
     {
         steps.tick();
+        self.number(attr, pos)
+    }
+
+    /// The number of an attribute's value at a place.
+    fn number(&self, attr: u16, pos: u32) -> u32
+        requires attr { attr < length self.now.attrs }
+        requires pos { pos < token_count self.now }
+        ensures number { result ≡ number_at self.now attr pos }
+        ensures valid { AreTables self.now }
+    {
         let tables = self.attrs.get(attr as usize);
         match tables.base {
             None => tables.numbers.get(pos),

@@ -4,8 +4,9 @@ use Rattle.std.proofs.lemmas.List.{with_items_is}
 use Rattle.mt_text_spec.specs.Registries.{Attr}
 use Rattle.mt_segment_spec.specs.Tables.{AreTablesOf, AttrTables, Tables}
 use Rattle.mt_segment.specs.Building.{AreAllMapped, AreBaseTables, AreInstances, HasBase}
-use Rattle.mt_segment.specs.Mappers.{AreCounted, AreThere, calls_due, image_by, named}
+use Rattle.mt_segment.specs.Mappers.{AreCounted, AreCountedAtMost, AreThere, calls_due, image_by, named}
 use Rattle.mt_segment.proofs.Assembled.{have_bases, all_made, all_counted}
+use Rattle.mt_segment.proofs.Halfway.{always, all_called, halfway_by_tables}
 use Rattle.mt_segment.proofs.segment.Segment.build.Goals as goal
 
 pub map_all-requires-clause-bases : goal.map_all-requires-clause-bases
@@ -92,3 +93,38 @@ returns-clause-calls g c =
     subst (λ (xs : List Attr). AreCounted (calls_due names c.as_mut_slice.result.now xs) (map m.calls c.args.mappers.now) (map m.calls c.map_all.new.mappers)) attrs c.in_ok-map_all.ensures.calls in
     subst (λ (t : Tables). AreCounted (calls_due names t.attrs registry.attrs) (map m.calls c.args.mappers.now) (map m.calls c.map_all.new.mappers)) (sym c.from_parts.ensures)
     (all_counted images registry texts c.as_mut_slice.result.now c.from_vec.result bases made mapped names (map m.calls c.args.mappers.now) (map m.calls c.map_all.new.mappers) counted)
+
+pub returns-in_err-map_all-clause-halfway : goal.returns-in_err-map_all-clause-halfway
+returns-in_err-map_all-clause-halfway g c =
+    let m = g.M.Mapper in
+    let registry = c.args.registry.now in
+    let texts = c.args.texts.now in
+    let images = image_by (named m.called m.image c.args.mappers.now) in
+    let attrs : c.as_slice-attrs.result.now ≡ registry.attrs = c.as_slice-attrs.ensures ∙ c.attrs.ensures in
+    let first : AreBaseTables registry.attrs texts c.in_ok-tables.tables.items (length registry.attrs) =
+    subst (λ (xs : List Attr). AreBaseTables xs texts c.in_ok-tables.tables.items (length xs)) attrs c.in_ok-tables.ensures in
+    let made : AreBaseTables registry.attrs texts c.as_mut_slice.result.now (length registry.attrs) =
+    subst (λ (ts : List AttrTables). AreBaseTables registry.attrs texts ts (length registry.attrs)) (sym c.as_mut_slice.ensures.value) first in
+    let bases : All (HasBase registry.attrs c.as_mut_slice.result.now) registry.attrs = have_bases registry texts c.as_mut_slice.result.now c.requires.registry c.requires.texts.short made in
+    let names = map m.called c.args.mappers.now in
+    let few : AreCountedAtMost (calls_due names c.as_mut_slice.result.now registry.attrs) (map m.calls c.args.mappers.now) (map m.calls c.map_all.new.mappers) =
+    subst (λ (xs : List Attr). AreCountedAtMost (calls_due names c.as_mut_slice.result.now xs) (map m.calls c.args.mappers.now) (map m.calls c.map_all.new.mappers)) attrs c.in_err-map_all.ensures.halfway in
+    always c.from_residual-in_err-map_all.result (λ t are. halfway_by_tables images registry texts c.as_mut_slice.result.now t bases made are names (map m.calls c.args.mappers.now) (map m.calls c.map_all.new.mappers) few)
+
+pub returns-in_err-structs-clause-halfway : goal.returns-in_err-structs-clause-halfway
+returns-in_err-structs-clause-halfway g c =
+    let m = g.M.Mapper in
+    let registry = c.args.registry.now in
+    let texts = c.args.texts.now in
+    let images = image_by (named m.called m.image c.args.mappers.now) in
+    let attrs : c.as_slice-attrs.result.now ≡ registry.attrs = c.as_slice-attrs.ensures ∙ c.attrs.ensures in
+    let first : AreBaseTables registry.attrs texts c.in_ok-tables.tables.items (length registry.attrs) =
+    subst (λ (xs : List Attr). AreBaseTables xs texts c.in_ok-tables.tables.items (length xs)) attrs c.in_ok-tables.ensures in
+    let made : AreBaseTables registry.attrs texts c.as_mut_slice.result.now (length registry.attrs) =
+    subst (λ (ts : List AttrTables). AreBaseTables registry.attrs texts ts (length registry.attrs)) (sym c.as_mut_slice.ensures.value) first in
+    let bases : All (HasBase registry.attrs c.as_mut_slice.result.now) registry.attrs = have_bases registry texts c.as_mut_slice.result.now c.requires.registry c.requires.texts.short made in
+    let names = map m.called c.args.mappers.now in
+    let few : AreCountedAtMost (calls_due names c.as_mut_slice.result.now registry.attrs) (map m.calls c.args.mappers.now) (map m.calls c.map_all.new.mappers) =
+    all_called (calls_due names c.as_mut_slice.result.now registry.attrs) (map m.calls c.args.mappers.now) (map m.calls c.map_all.new.mappers)
+    (subst (λ (xs : List Attr). AreCounted (calls_due names c.as_mut_slice.result.now xs) (map m.calls c.args.mappers.now) (map m.calls c.map_all.new.mappers)) attrs c.in_ok-map_all.ensures.calls) in
+    always c.from_residual-in_err-structs.result (λ t are. halfway_by_tables images registry texts c.as_mut_slice.result.now t bases made are names (map m.calls c.args.mappers.now) (map m.calls c.map_all.new.mappers) few)

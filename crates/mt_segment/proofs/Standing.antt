@@ -1,0 +1,68 @@
+-- A number at a place stands for the token's value.
+use Rattle.std.proofs.Common.{◌≡◌, ℕ, ◌<◌, List, [], length, map, get_or, slice_get, Option, None, Some, refl, sym, ◌∙◌, ap, arith}
+use Rattle.std.specs.Option.{option_map}
+use Rattle.std.proofs.lemmas.List.{length-map, get_or-map}
+use Rattle.std.proofs.lemmas.Option.{slice_get-get_or, slice_get-map, slice_get_within, get_or_from_slice_get}
+use Rattle.mt_text_spec.specs.Registries.{Registry, Attr, ValidRegistry, ValidAttr, IsBaseAt, base_attr}
+use Rattle.mt_text_spec.specs.Texts.{Text}
+use Rattle.mt_segment_spec.specs.Tables.{Tables, AreTables, AreTablesOf, attr_at, attr_values, base_values, made_of, number_at, number_by, tables_at, token_count}
+use Rattle.mt_segment.specs.Laws.{NumbersStandForValues}
+use Rattle.mt_segment.proofs.Known.{column_is, table_is, length-attr_values}
+
+module _ (images : List ℕ → List ℕ → List ℕ) (registry : Registry) (corpus : List Text) (tables : Tables) (valid : ValidRegistry registry) (are : AreTablesOf images registry corpus tables) where
+  base_is : (number base : ℕ) → number < length tables.attrs → (tables_at tables.attrs number).base ≡ Some base → (base < length tables.attrs) × ((attr_at registry base).base ≡ None)
+  base_is number base l some =
+      let within : number < length registry.attrs = omega (arith, are.attr_count) in
+      let its : ValidAttr registry.attrs (attr_at registry number) = valid.attrs number (base_attr []) within in
+      let is : IsBaseAt registry.attrs base = its.based base (sym (are.attrs number within).based ∙ some) in
+      (omega (arith, are.attr_count, slice_get_within registry.attrs base is.attr is.there), ap (λ (a : Attr). a.base) (get_or_from_slice_get registry.attrs base is.attr (base_attr []) is.there) ∙ is.base)
+
+  -- the values of an attribute with this base
+  values_are : (number : ℕ) (base : Option ℕ) → (attr_at registry number).base ≡ base →
+      attr_values images registry corpus number ≡ made_of (images (attr_at registry number).mapper) (base_values registry corpus number) (base_values registry corpus) base
+  values_are number base e = ap (made_of (images (attr_at registry number).mapper) (base_values registry corpus number) (base_values registry corpus)) e
+
+  -- at an attribute without base
+  at_base : (number place : ℕ) → number < length tables.attrs → (tables_at tables.attrs number).base ≡ None → place < token_count tables →
+      slice_get (tables_at tables.attrs number).lexicon (get_or (tables_at tables.attrs number).numbers place 0) ≡ Some (get_or (attr_values images registry corpus number) place [])
+  at_base number place l none m =
+      let values = attr_values images registry corpus number in
+      let within : place < length values = omega (arith, length-attr_values images registry corpus tables number are.texts) in
+      (column_is images registry corpus tables are number l none).same place within ∙ slice_get-get_or values place [] within
+
+  -- at one with a base
+  at_mapped : (number base place : ℕ) → number < length tables.attrs → (tables_at tables.attrs number).base ≡ Some base → place < token_count tables →
+      slice_get (tables_at tables.attrs number).lexicon (get_or (tables_at tables.attrs number).numbers (get_or (tables_at tables.attrs base).numbers place 0) 0) ≡ Some (get_or (attr_values images registry corpus number) place [])
+  at_mapped number base place l some m =
+      let image = images (attr_at registry number).mapper in
+      let under = (tables_at tables.attrs base).lexicon in
+      let values = attr_values images registry corpus base in
+      let (low, none) = base_is number base l some in
+      let its_none : (tables_at tables.attrs base).base ≡ None = (are.attrs base (omega (arith, are.attr_count))).based ∙ none in
+      let k = get_or (tables_at tables.attrs base).numbers place 0 in
+      let here : slice_get under k ≡ Some (get_or values place []) = at_base base place low its_none m in
+      let few : k < length under = slice_get_within under k (get_or values place []) here in
+      let read : slice_get (tables_at tables.attrs number).lexicon (get_or (tables_at tables.attrs number).numbers k 0) ≡ slice_get (map image under) k =
+      (table_is images registry corpus tables are number base l some).same k (omega (arith, length-map under image)) in
+      let all : attr_values images registry corpus number ≡ map image (base_values registry corpus base) = values_are number (Some base) (sym (are.attrs number (omega (arith, are.attr_count))).based ∙ some) in
+      let own : values ≡ base_values registry corpus base = values_are base None none in
+      let within : place < length (base_values registry corpus base) = omega (arith, ap length own, length-attr_values images registry corpus tables base are.texts) in
+      let same : image (get_or values place []) ≡ get_or (attr_values images registry corpus number) place [] =
+      ap (λ (vs : List (List ℕ)). image (get_or vs place [])) own ∙ sym (get_or-map image (base_values registry corpus base) place [] [] within) ∙ ap (λ (vs : List (List ℕ)). get_or vs place []) (sym all) in
+      read ∙ slice_get-map image under k ∙ ap (option_map image) here ∙ ap Some same
+
+pub stand_for_values : NumbersStandForValues
+stand_for_values images registry corpus tables valid are attr place l m = by (tables_at tables.attrs attr).base refl
+  where
+    by : (base : Option ℕ) → (tables_at tables.attrs attr).base ≡ base →
+        slice_get (tables_at tables.attrs attr).lexicon (number_by (tables_at tables.attrs attr).numbers tables.attrs place base) ≡ Some (get_or (attr_values images registry corpus attr) place [])
+    by None none = at_base images registry corpus tables valid are attr place l none m
+    by (Some base) some = at_mapped images registry corpus tables valid are attr base place l some m
+
+-- so it is one of the lexicon's
+pub number_low : (tables : Tables) → AreTables tables → (attr place number : ℕ) → number ≡ number_at tables attr place → attr < length tables.attrs → place < token_count tables → number < length (tables_at tables.attrs attr).lexicon
+number_low tables known attr place number e l m =
+    let under = known.under in
+    rw e
+    (slice_get_within (tables_at tables.attrs attr).lexicon (number_at tables attr place) (get_or (attr_values under.images known.registry under.corpus attr) place [])
+    (stand_for_values under.images known.registry under.corpus tables under.valid under.are attr place l m))
