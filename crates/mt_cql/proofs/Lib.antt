@@ -13,3 +13,4 @@ pub mod Chains
 pub mod Numbering
 pub mod Unescaping
 pub mod Escaping
+pub mod Lexing

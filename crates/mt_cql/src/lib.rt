@@ -9,6 +9,8 @@ mod parts;
 mod printer;
 mod query;
 mod stack;
+#[cfg(test)]
+mod tests;
 mod text;
 mod token;
 
