@@ -14,3 +14,7 @@ pub mod Numbering
 pub mod Unescaping
 pub mod Escaping
 pub mod Lexing
+pub mod Quoting
+pub mod PrintedTests
+pub mod PrintedExprs
+pub mod PrintedQueries

@@ -4,3 +4,4 @@ pub mod Measures
 pub mod Meaning
 pub mod Verdicts
 pub mod Printed
+pub mod Valid
