@@ -85,7 +85,7 @@ abbrev pub Passes : (ℕ → Bool) → List ℕ → Type 0
 Passes P [] = Unit {0}
 Passes P (b ∷ bytes) = (P b ≡ true) × Passes P bytes
 
-passes_from : (P : ℕ → Bool) (bytes : List ℕ) → AllPass P bytes → Passes P bytes
+pub passes_from : (P : ℕ → Bool) (bytes : List ℕ) → AllPass P bytes → Passes P bytes
 passes_from P [] h = tt
 passes_from P (b ∷ bytes) h = (h 0 0 (omega arith), passes_from P bytes (λ k d l. h (suc k) d (omega arith)))
 
@@ -140,12 +140,12 @@ value_append v [] ys = refl
 value_append v (x ∷ xs) ys = value_append (10 * v + (x - 48)) xs ys
 
 -- digits that write a number
-record Writes (n : ℕ) (digits : List ℕ) : Type 0 where
-  value : decimal_value 0 digits ≡ n
-  each : Passes is_ascii_digit digits
-  some : 0 < length digits
+pub record Writes (n : ℕ) (digits : List ℕ) : Type 0 where
+  pub value : decimal_value 0 digits ≡ n
+  pub each : Passes is_ascii_digit digits
+  pub some : 0 < length digits
 
-decimal_writes : (n : ℕ) → n < 2 ^ 64 → Writes n (decimal n)
+pub decimal_writes : (n : ℕ) → n < 2 ^ 64 → Writes n (decimal n)
 decimal_writes = decimal_by_steps Writes
     (λ n h. record { value = omega arith; each = (digit_true (48 + n) (omega arith) (omega arith), tt); some = omega arith })
     (λ n ds h w. record {

@@ -18,3 +18,11 @@ pub mod Quoting
 pub mod PrintedTests
 pub mod PrintedExprs
 pub mod PrintedQueries
+pub mod SoundTokens
+pub mod ValidTests
+pub mod ValidExprs
+pub mod ValidQueries
+pub mod Nesting
+pub mod Depths
+pub mod Deep
+pub mod PrintedDepth

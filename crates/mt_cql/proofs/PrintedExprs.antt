@@ -46,7 +46,7 @@ kind_found : (registry : Registry) (kind : ℕ) → ValidRegistry registry → k
     → number_of (kind_names registry.kinds) (name_at (kind_names registry.kinds) kind) ≡ Some kind
 kind_found registry kind v h = name_found (kind_names registry.kinds) kind (kinds_fit registry v) (kind_there registry kind h)
 
-kind_named : (registry : Registry) (kind : ℕ) → ValidRegistry registry → kind < length registry.kinds → IsIdentifier (name_at (kind_names registry.kinds) kind)
+pub kind_named : (registry : Registry) (kind : ℕ) → ValidRegistry registry → kind < length registry.kinds → IsIdentifier (name_at (kind_names registry.kinds) kind)
 kind_named registry kind v h = name_fits (kind_names registry.kinds) kind (kinds_fit registry v) (kind_there registry kind h)
 
 attrs_found : (registry : Registry) (kind : ℕ) → ValidRegistry registry → kind < length registry.kinds
@@ -91,7 +91,7 @@ respell at xs ys rest tokens e s = subst (λ x. Spells at x rest tokens) e s
 
 -- ## Labels
 
-is_some_cond : (q : Bool) (at : ℕ) → is_some (cond q (Some at) None) ≡ q
+pub is_some_cond : (q : Bool) (at : ℕ) → is_some (cond q (Some at) None) ≡ q
 is_some_cond true at = refl
 is_some_cond false at = refl
 
@@ -140,7 +140,7 @@ again_none f g (n ∷ ns) h = go (f n) (g n) (h n) (again_none f g ns h)
     go (Some at) None e k = k
     go (Some at) (Some other) e k = cc
 
-is_some_first : (a b : Option ℕ) → is_some (first_of a b) ≡ (is_some a || is_some b)
+pub is_some_first : (a b : Option ℕ) → is_some (first_of a b) ≡ (is_some a || is_some b)
 is_some_first None b = refl
 is_some_first (Some at) b = refl
 

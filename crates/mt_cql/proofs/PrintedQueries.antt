@@ -287,14 +287,14 @@ module _ (registry : Registry) (valid : ValidRegistry registry) where
 
 -- ## Labels that conditions name
 
-abbrev counted : (n k : ℕ) → List ℕ
+abbrev pub counted : (n k : ℕ) → List ℕ
 counted n zero = []
 counted n (suc k) = n ∷ counted (suc n) k
 
 same_eq : (n : ℕ) → nat_eq n n ≡ true
 same_eq n = grind (arith, nat_tests)
 
-either_true : (p q : Bool) → (p || q) ≡ true → (p ≡ true) ⊎ (q ≡ true)
+pub either_true : (p q : Bool) → (p || q) ≡ true → (p ≡ true) ⊎ (q ≡ true)
 either_true true q h = inl refl
 either_true false q h = inr h
 
@@ -302,7 +302,7 @@ or_true : (p q : Bool) → q ≡ true → (p || q) ≡ true
 or_true true q h = refl
 or_true false q h = h
 
-both_true : (p q : Bool) → (p && q) ≡ true → (p ≡ true) × (q ≡ true)
+pub both_true : (p q : Bool) → (p && q) ≡ true → (p ≡ true) × (q ≡ true)
 both_true true q h = (refl, h)
 both_true false q h = cc
 
@@ -320,11 +320,11 @@ placed : (f : ℕ → Option ℕ) (label : ℕ) → is_some (f label) ≡ true �
 placed f label h l u = placed_from f label 1 9 h (omega arith) (omega arith)
 
 -- a label of a valid expression is 1 to 9
-record IsLabel (n : ℕ) : Type 0 where
-  some : 0 < n
-  small : n < 10
+pub record IsLabel (n : ℕ) : Type 0 where
+  pub some : 0 < n
+  pub small : n < 10
 
-label_within : (registry : Registry) (expr : q.Expr) → ValidExpr registry expr → (n : ℕ) → has_label n expr ≡ true → IsLabel n
+pub label_within : (registry : Registry) (expr : q.Expr) → ValidExpr registry expr → (n : ℕ) → has_label n expr ≡ true → IsLabel n
 label_within registry (q.TokenTest label test) v n h =
     let s = both_true (nat_lt 0 label) (nat_eq label n) h in
     let a = s.0 in let b = s.1 in let l = v.0 in

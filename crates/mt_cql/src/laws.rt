@@ -1,6 +1,6 @@
 //! What is so of all texts: each is one thing, a query or a refusal, and no other.
 
-ghost use Rattle.std.specs.Prelude.{◌≡◌, ◌≤◌, ℕ, List, Result, Ok, length};
+ghost use Rattle.std.specs.Prelude.{◌≡◌, ◌<◌, ◌≤◌, ℕ, List, Result, Ok, length};
 ghost use Rattle.mt_text_spec.specs.Registries.{Registry, ValidRegistry};
 ghost use Rattle.mt_text_spec.specs.Queries.{Query};
 ghost use Rattle.mt_query_spec.specs.Trees.{QueryTree, query_tokens};
@@ -28,4 +28,10 @@ pub fn one_meaning()
 pub fn printed_is_read()
     ensures { (registry : Registry) (default : ℕ) (query : Query) → ValidRegistry registry → ValidQuery registry query → length (printed registry query) ≤ 4096
         → Means registry default (printed registry query) (Ok query) }
+{}
+
+/// Each query that a text is read as is valid.
+pub fn read_is_valid()
+    ensures { (registry : Registry) (default : ℕ) (text : List ℕ) (query : Query) → ValidRegistry registry → default < length registry.attrs
+        → Means registry default text (Ok query) → ValidQuery registry query }
 {}
