@@ -12,3 +12,17 @@ pub mod Words
 pub mod Chains
 pub mod Numbering
 pub mod Unescaping
+pub mod Escaping
+pub mod Lexing
+pub mod Quoting
+pub mod PrintedTests
+pub mod PrintedExprs
+pub mod PrintedQueries
+pub mod SoundTokens
+pub mod ValidTests
+pub mod ValidExprs
+pub mod ValidQueries
+pub mod Nesting
+pub mod Depths
+pub mod Deep
+pub mod PrintedDepth

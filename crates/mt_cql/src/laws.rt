@@ -1,10 +1,12 @@
 //! What is so of all texts: each is one thing, a query or a refusal, and no other.
 
-ghost use Rattle.std.specs.Prelude.{◌≡◌, ℕ, List, Result, take};
-ghost use Rattle.mt_text_spec.specs.Registries.{Registry};
+ghost use Rattle.std.specs.Prelude.{◌≡◌, ◌<◌, ◌≤◌, ℕ, List, Result, Ok, length};
+ghost use Rattle.mt_text_spec.specs.Registries.{Registry, ValidRegistry};
 ghost use Rattle.mt_text_spec.specs.Queries.{Query};
 ghost use Rattle.mt_query_spec.specs.Trees.{QueryTree, query_tokens};
 ghost use Rattle.mt_query_spec.specs.Verdicts.{Means, Refusal};
+ghost use Rattle.mt_query_spec.specs.Printed.{printed};
+ghost use Rattle.mt_query_spec.specs.Valid.{ValidQuery};
 
 /// Each list of tokens is written for one query at most.
 pub fn one_reading()
@@ -20,4 +22,16 @@ pub fn some_meaning()
 pub fn one_meaning()
     ensures { (registry : Registry) (default : ℕ) (text : List ℕ) (said other : Result Query Refusal)
         → Means registry default text said → Means registry default text other → said ≡ other }
+{}
+
+/// A valid query is read from its printed text, under any default attribute, where that text has at most 4,096 bytes.
+pub fn printed_is_read()
+    ensures { (registry : Registry) (default : ℕ) (query : Query) → ValidRegistry registry → ValidQuery registry query → length (printed registry query) ≤ 4096
+        → Means registry default (printed registry query) (Ok query) }
+{}
+
+/// Each query that a text is read as is valid.
+pub fn read_is_valid()
+    ensures { (registry : Registry) (default : ℕ) (text : List ℕ) (query : Query) → ValidRegistry registry → default < length registry.attrs
+        → Means registry default text (Ok query) → ValidQuery registry query }
 {}

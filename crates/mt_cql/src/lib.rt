@@ -6,10 +6,14 @@ mod laws;
 mod lexer;
 mod names;
 mod parts;
+mod printer;
 mod query;
 mod stack;
+#[cfg(test)]
+mod tests;
 mod text;
 mod token;
 
-pub use laws::{one_meaning, one_reading, some_meaning};
+pub use laws::{one_meaning, one_reading, printed_is_read, read_is_valid, some_meaning};
+pub use printer::print;
 pub use query::{Cause, Cond, Expr, Filter, FilterKind, Filters, Query, QueryError, Test};

@@ -23,14 +23,14 @@ fn plain_length(bytes: &[u8]) -> usize
 }
 
 /// Whether a backslash before this byte falls away.
-fn falls(literal: bool, b: u8) -> bool
+pub fn falls(literal: bool, b: u8) -> bool
     ensures { result ≡ falls literal b }
 {
     b == b'"' || literal && b == b'\\'
 }
 
 /// Adds a piece at the end.
-fn add(text: &mut String, piece: &str) -> Result<(), NoMemory>
+pub fn add(text: &mut String, piece: &str) -> Result<(), NoMemory>
     ensures { OnOk result (string_bytes text.new ≡ string_bytes text.old ++ piece.now) }
 {
     text.push_str(piece)?;

@@ -3,3 +3,5 @@ pub mod Trees
 pub mod Measures
 pub mod Meaning
 pub mod Verdicts
+pub mod Printed
+pub mod Valid
