@@ -1,15 +1,18 @@
 //! Measures the crates at the engine's heart and the script reader, each beside a plain loop over vectors or a map of the standard
 //! library.
 //!
-//! Without the word `all` it measures nothing, so that what it prints is the same at every run.
+//! Without the word `all` it measures nothing, so that what it prints is the same at every run. With the word `text` it reads a text, and with `segment` it builds
+//! its segment too, so that the memory which that takes can be measured from outside.
 #![tactic(auto)]
 
 mod lexicons;
 mod patterns;
 mod scripts;
+mod segments;
 mod work;
 
 use mt_base::NoMemory;
+use std::alloc::Global;
 use std::rt::Clock;
 use std::time::Instant;
 use std::{env, io};
@@ -18,9 +21,13 @@ use std::{env, io};
 const RUNS: u32 = 5;
 
 fn main(rt: HostRuntime) -> io::Result<()> {
-    let is_asked = env::args(&rt)?.skip(1).any(|word| word.as_str() == "all");
-    if !is_asked {
+    let Some(asked) = env::args(&rt)?.nth(1) else {
         return println!(rt; "mt_bench all: measures the crates");
+    };
+    match asked.as_str() {
+        "text" => return take_memory(&rt, false),
+        "segment" => return take_memory(&rt, true),
+        _ => {}
     }
     println!(rt; "workload / plain loop: the best times in nanoseconds, and their ratio")?;
     match work::Input::new(rt.alloc()) {
@@ -29,6 +36,10 @@ fn main(rt: HostRuntime) -> io::Result<()> {
     }
     match lexicons::Input::new(rt.alloc()) {
         Ok(input) => measure_lexicons(&rt, &input)?,
+        Err(NoMemory) => println!(rt; "memory was wanted")?,
+    }
+    match segments::Input::new(rt.alloc()) {
+        Ok(input) => measure_segments(&rt, &input)?,
         Err(NoMemory) => println!(rt; "memory was wanted")?,
     }
     match patterns::Input::new(rt.alloc()) {
@@ -94,6 +105,34 @@ fn measure_lexicons(rt: &HostRuntime, input: &lexicons::Input) -> io::Result<()>
         || lexicons::merge(alloc, input),
         || lexicons::join(alloc, input),
     )
+}
+
+/// Measures building a segment beside reading its text.
+fn measure_segments(rt: &HostRuntime, input: &segments::Input) -> io::Result<()> {
+    let alloc = rt.alloc();
+    compare(
+        rt,
+        "build a segment / read its text",
+        || segments::build(alloc, input),
+        || segments::read(alloc, input),
+    )
+}
+
+/// Reads a text, and reads it again or builds its segment, so that the memory that this takes can be measured from outside.
+fn take_memory(rt: &HostRuntime, is_built: bool) -> io::Result<()> {
+    match taken(rt.alloc(), is_built) {
+        Ok(tokens) => println!(rt; "{tokens} tokens"),
+        Err(NoMemory) => println!(rt; "memory was wanted"),
+    }
+}
+
+fn taken(alloc: Global, is_built: bool) -> Result<u64, NoMemory> {
+    let input = segments::Input::new(alloc)?;
+    if is_built {
+        segments::build(alloc, &input)
+    } else {
+        Ok(0)
+    }
 }
 
 /// Measures the script reader over a text of 192 MiB, and of half of it.

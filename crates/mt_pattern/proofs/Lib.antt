@@ -1,3 +1,4 @@
+pub mod Accepted
 pub mod Bits
 pub mod Marked
 pub mod PlainMarks

@@ -14,7 +14,8 @@ use std::sync::ledger::{Blank, Ledger};
 
 /// Whether each character of a text stands for itself in a pattern: it is an ASCII letter or digit, or beyond ASCII.
 pub fn is_plain(text: &str) -> bool
-    ensures { IsTrue result → AllPass is_plain_byte text.now }
+    ensures plain { IsTrue result → AllPass is_plain_byte text.now }
+    ensures all { AllPass is_plain_byte text.now → IsTrue result }
 {
     text.as_bytes()
         .iter()
