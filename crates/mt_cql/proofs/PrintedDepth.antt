@@ -33,9 +33,6 @@ module _ (names : List (List ℕ)) (fit : Fit names) where
   string_behind : (attr : ℕ) (sign text : List ℕ) → attr < length names → DeepBytes 0 sign → DeepBytes 0 text → DeepBytes 0 (name_at names attr ++ (sign ++ text))
   string_behind attr sign text h s d = joined 0 0 (name_at names attr) sign text (name_deep (name_at names attr) (name_fits names attr fit h)) s d
 
-  pattern_deep : (attr : ℕ) (sign text : List ℕ) → attr < length names → DeepBytes 0 sign → DeepBytes 0 (pattern_string text) → DeepBytes 0 (name_at names attr ++ (sign ++ pattern_string text))
-  pattern_deep attr sign text h s d = string_behind attr sign (pattern_string text) h s d
-
   test_printed : (rank : TestRank) (test : q.Test) → ValidTest names test → DeepBytes (test_need rank test) (printed_test names rank test)
   test_printed rank q.Any v = absurd v
   test_printed rank (q.Pattern attr text true) v =

@@ -291,9 +291,6 @@ abbrev pub counted : (n k : ℕ) → List ℕ
 counted n zero = []
 counted n (suc k) = n ∷ counted (suc n) k
 
-same_eq : (n : ℕ) → nat_eq n n ≡ true
-same_eq n = grind (arith, nat_tests)
-
 pub either_true : (p q : Bool) → (p || q) ≡ true → (p ≡ true) ⊎ (q ≡ true)
 either_true true q h = inl refl
 either_true false q h = inr h

@@ -75,9 +75,9 @@ placed_back : (f : ℕ → Option ℕ) (label n k : ℕ) → meaning.has_label n
 placed_back f label n zero h = cc
 placed_back f label n (suc k) h = elim (either_true (nat_eq label n && is_some (f n)) (meaning.has_label (suc n) (map f (counted (suc n) k)) label) h) [
   | inl a ↦
-    let b = both_true (nat_eq label n) (is_some (f n)) a in
-    let e : label ≡ n = same label n b.0 in
-    record { there = ap (λ m. is_some (f m)) e ∙ b.1; low = omega arith; high = omega arith }
+      let b = both_true (nat_eq label n) (is_some (f n)) a in
+      let e : label ≡ n = same label n b.0 in
+      record { there = ap (λ m. is_some (f m)) e ∙ b.1; low = omega arith; high = omega arith }
   | inr b ↦ let p = placed_back f label (suc n) k b in record { there = p.there; low = omega (arith, p.low); high = omega (arith, p.high) }
 ]
   where

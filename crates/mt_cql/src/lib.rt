@@ -1,5 +1,5 @@
-//! The query language: its tokens, the parts of a query with what is at fault in them, and the laws of what a text means. The parser and the printer that will
-//! stand on them are not there yet.
+//! The query language: its tokens, the parts of a query with what is at fault in them, the printer, and the laws of what a text means. The parser that will stand
+//! on them is not there yet.
 #![tactic(auto)]
 
 mod laws;

@@ -1,6 +1,6 @@
 -- When a query is valid: where some text is read as it, whatever the length of that text.
 use Rattle.std.specs.Prelude.{ℕ, ◌≡◌, ◌==◌, ◌&&◌, ◌||◌, ◌^◌, ◌<◌, ◌≤◌, not, nat_eq, nat_lt, Bool, true, false, List, [], ◌∷◌, length}
-use Rattle.mt_text_spec.specs.Registries.{Registry, attr_names, kind_names, kind_attrs}
+use Rattle.mt_text_spec.specs.Registries.{Registry, attr_names, kind_attrs}
 use Rattle.mt_text_spec.specs.Queries.{Test, Any, Pattern, Literal, Not, Both, Either, Expr, TokenTest, Begin, End, Whole, Seq, Choice, Repeat, Filters, NoMore, More, Cond, Query}
 use Rattle.mt_query_spec.specs.Tokens.{deepest}
 use Rattle.mt_query_spec.specs.Verdicts.{is_too_great}
