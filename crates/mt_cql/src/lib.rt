@@ -14,6 +14,8 @@ mod tests;
 mod text;
 mod token;
 
-pub use laws::{one_meaning, one_reading, printed_is_read, read_is_valid, some_meaning};
+pub use laws::{
+    one_meaning, one_reading, printed_is_read, read_is_valid, some_meaning, valid_where_read,
+};
 pub use printer::print;
 pub use query::{Cause, Cond, Expr, Filter, FilterKind, Filters, Query, QueryError, Test};
