@@ -200,8 +200,13 @@ module _ (registry : Registry) (default : ℕ) where
   filters_nest : {sort : Filtered} (part : FilterTree sort) → sort_need sort (filters_of registry default part) ≤ filter_depth part
   filters_nest (tree.Plain choice) = omega (arith, expr_nests choice)
   filters_nest (tree.WithFilters choice filters) =
-      omega (arith, deeper_most (has_filters (chained (filters_of registry default filters))) (max (expr_need Choice (expr_of registry default choice)) (filters_need (chained (filters_of registry default filters)))),
-      expr_nests choice, filters_nest filters, chained_need (filters_of registry default filters))
+      omega (
+        arith,
+        deeper_most (has_filters (chained (filters_of registry default filters))) (max (expr_need Choice (expr_of registry default choice)) (filters_need (chained (filters_of registry default filters)))),
+        expr_nests choice,
+        filters_nest filters,
+        chained_need (filters_of registry default filters),
+      )
   filters_nest (tree.Filter op operand) = omega (arith, filters_nest operand)
   filters_nest (tree.More filters op operand) =
       let o = filters_of registry default operand in

@@ -58,10 +58,6 @@ pub close_square : (at : ℕ) (rest : List ℕ) → Spells at (codes "]") rest (
 unfolding tokens_from lexeme
 close_square at rest = record { is = refl }
 
-pub within_word : (at : ℕ) (rest : List ℕ) → Spells at (codes " within ") rest (Word (suc at) (codes "within") ∷ [])
-unfolding tokens_from lexeme
-within_word at rest = record { is = refl }
-
 pub closing_tag : (at : ℕ) (rest : List ℕ) → Spells at (codes "</") rest (Mark t.ClosingTag ∷ [])
 unfolding tokens_from lexeme
 closing_tag at rest = record { is = refl }

@@ -130,6 +130,7 @@ long_nests b rest found h =
   where
     is : (f : Sign × ℕ) → ◌≡◌ {A = Option (Sign × ℕ)} (Some f) (Some found) → LexemeNests b rest (Mark f.0, f.1) → LexemeNests b rest (Mark found.0, found.1)
     is f e n = let k : ◌≡◌ {A = Sign × ℕ} f found = cc in subst (λ (x : Sign × ℕ). LexemeNests b rest (Mark x.0, x.1)) k n
+
     go : (p : Bool) → (b == 33 && slice_index rest 0 == 61) ≡ p → (q : Bool) → (slice_index rest 1 == 61) ≡ q → (r : Bool) → (b == 61 && slice_index rest 0 == 61) ≡ r
         → (s : Bool) → (b == 60 && slice_index rest 0 == 47) ≡ s → (u : Bool) → (b == 47 && slice_index rest 0 == 62) ≡ u
         → cond p (cond q (Some (t.Differs, 2)) (Some (t.IsNot, 1))) (cond r (Some (t.Same, 1)) (cond s (Some (t.ClosingTag, 1)) (cond u (Some (t.WholeEnd, 1)) None))) ≡ Some found
@@ -146,6 +147,7 @@ sign_at_nests at b rest found h = go (b == 123) refl (t.long_sign b rest) refl (
   where
     is : (f : Token × ℕ) → ◌≡◌ {A = t.Lexeme} (Ok f) (Ok found) → LexemeNests b rest f → LexemeNests b rest found
     is f e n = let k : ◌≡◌ {A = Token × ℕ} f found = cc in subst (LexemeNests b rest) k n
+
     go : (q : Bool) → (b == 123) ≡ q → (long : Option (Sign × ℕ)) → t.long_sign b rest ≡ long → (short : Option Sign) → t.sign_of b ≡ short
         → ◌≡◌ {A = t.Lexeme} (cond q (Ok (OpenCurly at, 0)) (elim long [
           | Some f ↦ Ok (Mark f.0, f.1)
@@ -219,9 +221,9 @@ nests_from (b ∷ rest) at zero s o m h e =
           | Err why ↦ record { tokens = []; stop = Some (at, why) }
         ])).stop ≡ None
         → (nested (outside o m) b ≡ outside o m → (tokens_from (suc at) zero rest).stop ≡ None
-          → nesting_from (nested (outside o m) b) rest ≡ nesting_of o m (plain (tokens_from (suc at) zero rest).tokens))
+        → nesting_from (nested (outside o m) b) rest ≡ nesting_of o m (plain (tokens_from (suc at) zero rest).tokens))
         → ((n p r : ℕ) → nesting_from (nested (outside o m) b) (take n rest) ≡ outside p r → (tokens_from (suc at) n rest).stop ≡ None
-          → nesting_from (nested (outside o m) b) rest ≡ nesting_of p r (plain (tokens_from (suc at) n rest).tokens))
+        → nesting_from (nested (outside o m) b) rest ≡ nesting_of p r (plain (tokens_from (suc at) n rest).tokens))
         → nesting_from (nested (outside o m) b) rest ≡ nesting_of o m (plain (cond q (tokens_from (suc at) zero rest) (elim found [
           | Ok f ↦ t.preceded (at, f.0) (tokens_from (suc at) f.1 rest)
           | Err why ↦ record { tokens = []; stop = Some (at, why) }

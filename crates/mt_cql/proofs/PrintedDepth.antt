@@ -2,7 +2,6 @@
 use Rattle.std.proofs.Common.{ℕ, ◌+◌, ◌^◌, ◌≡◌, ◌<◌, ◌≤◌, Bool, true, false, List, [], ◌∷◌, ◌++◌, Ok, refl, sym, ◌∙◌, ap, arith, length, append-nil, nat_lt, subst}
 use Rattle.std.specs.Prelude.{cond, max, codes, decimal, ◌==◌, ◌||◌}
 use Rattle.std.proofs.lemmas.List.{length-map}
-use Rattle.std.proofs.lemmas.Bool.Decides.{nat_tests}
 use Rattle.mt_text_spec.specs.Registries.{Registry, Attr, ValidRegistry, attr_names, kind_names, kind_attrs}
 use Rattle.mt_text_spec.specs.Words.{IsIdentifier}
 use Rattle.mt_text_spec.specs.Queries as q
@@ -10,7 +9,7 @@ use Rattle.mt_query_spec.specs.Tokens.{Nesting, deepest}
 use Rattle.mt_query_spec.specs.Trees.{TestRank, Unary, Conjunction, Rank, Atom, Item, Sequence, Choice, query_tokens}
 use Rattle.mt_query_spec.specs.Trees as tree
 use Rattle.mt_query_spec.specs.Printed.{name_at, escaped, pattern_string, literal_string, bracketed, has_test, brackets_both, brackets_either, brackets_repeat, brackets_seq, brackets_choice, printed_test, printed_label, printed_tag, printed_turns, printed_expr, printed_kind, has_filters, printed_filters, printed_side, printed_cond, printed_conds, printed}
-use Rattle.mt_query_spec.specs.Valid.{ValidTest, ValidMaybe, ValidExpr, ValidFilters, ValidConds, ValidQuery}
+use Rattle.mt_query_spec.specs.Valid.{ValidTest, ValidMaybe, ValidExpr, ValidFilters, ValidConds, ValidQuery, IsReadAs}
 use Rattle.mt_query_spec.specs.Verdicts.{Means}
 use Rattle.mt_cql.proofs.Quoting.{pattern_length, literal_length}
 use Rattle.mt_cql.proofs.PrintedTests.{Fit, name_fits}
@@ -19,7 +18,7 @@ use Rattle.mt_cql.proofs.PrintedQueries.{label_within}
 use Rattle.mt_cql.proofs.Nesting.{nesting_of, deepest_of}
 use Rattle.mt_cql.proofs.Depths.{deeper, test_need, expr_need, filters_need, query_need, query_depth, query_nests}
 use Rattle.mt_cql.proofs.Deep.{join, flat_before, flat_behind, behind_bytes, DeepBytes, plain_bytes, round_bytes, name_deep, number_deep, string_deep, tokens_depth}
-use Rattle.mt_cql.proofs.ValidQueries.{read_as}
+use Rattle.mt_cql.proofs.ValidQueries.{good_reading, read_as}
 
 bracketed_deep : (round : Bool) (k : ℕ) (bytes : List ℕ) → DeepBytes k bytes → DeepBytes (deeper round k) (bracketed round bytes)
 bracketed_deep true k bytes d = round_bytes k bytes d
@@ -32,9 +31,6 @@ joined a b xs sign ys x s y = join behind_bytes a b xs (sign ++ ys) x (flat_befo
 module _ (names : List (List ℕ)) (fit : Fit names) where
   string_behind : (attr : ℕ) (sign text : List ℕ) → attr < length names → DeepBytes 0 sign → DeepBytes 0 text → DeepBytes 0 (name_at names attr ++ (sign ++ text))
   string_behind attr sign text h s d = joined 0 0 (name_at names attr) sign text (name_deep (name_at names attr) (name_fits names attr fit h)) s d
-
-  pattern_deep : (attr : ℕ) (sign text : List ℕ) → attr < length names → DeepBytes 0 sign → DeepBytes 0 (pattern_string text) → DeepBytes 0 (name_at names attr ++ (sign ++ pattern_string text))
-  pattern_deep attr sign text h s d = string_behind attr sign (pattern_string text) h s d
 
   test_printed : (rank : TestRank) (test : q.Test) → ValidTest names test → DeepBytes (test_need rank test) (printed_test names rank test)
   test_printed rank q.Any v = absurd v
@@ -160,21 +156,17 @@ module _ (registry : Registry) (valid : ValidRegistry registry) where
       ap deepest (sym (append-nil (printed registry query))) ∙ ap (λ (s : Nesting). s.most) (d.is 0 0 [] (omega arith))
       ∙ (let e : max 0 (0 + query_need query) ≡ query_need query = omega arith in e)
 
-deep_enough : (n d : ℕ) → (nat_lt 4096 n || nat_lt 32 d) ≡ false → d ≤ 32
-deep_enough n d h = go (nat_lt 4096 n) (nat_lt 32 d) refl h
-  where
-    go : (p q : Bool) → nat_lt 32 d ≡ q → (p || q) ≡ false → d ≤ 32
-    go true q e h = cc
-    go false true e h = cc
-    go false false e h = grind (arith, nat_tests)
-
 -- each query that a text is read as is valid
+pub read_valid : (registry : Registry) (default : ℕ) (text : List ℕ) (query : q.Query) → ValidRegistry registry → default < length registry.attrs → IsReadAs registry default text query
+    → ValidQuery registry query
+read_valid registry default text query valid d r =
+    let g = good_reading registry default text query d r in
+    let a : deepest text ≡ query_depth r.part = deepest_of text r.whole ∙ ap (λ x. (nesting_of 0 0 x).most) (sym r.tokens) ∙ tokens_depth r.part in
+    let b : query_need query ≤ query_depth r.part = subst (λ x. query_need x ≤ query_depth r.part) g.is (query_nests registry default r.part) in
+    let c : deepest text ≤ 32 = r.nests in
+    let e : deepest (printed registry query) ≡ query_need query = query_printed registry valid query g.good.head g.good.filters g.good.conds in
+    record { head = g.good.head; filters = g.good.filters; conds = g.good.conds; small = g.small; nests = omega arith }
+
 pub means_valid : (registry : Registry) (default : ℕ) (text : List ℕ) (query : q.Query) → ValidRegistry registry → default < length registry.attrs → Means registry default text (Ok query)
     → ValidQuery registry query
-means_valid registry default text query valid d m =
-    let r = read_as registry default text query d (Ok query) m refl in
-    let a : deepest text ≡ query_depth r.part = deepest_of text r.whole ∙ ap (λ x. (nesting_of 0 0 x).most) (sym r.tokens) ∙ tokens_depth r.part in
-    let b : query_need query ≤ query_depth r.part = subst (λ x. query_need x ≤ query_depth r.part) r.is (query_nests registry default r.part) in
-    let c : deepest text ≤ 32 = deep_enough (length text) (deepest text) r.short in
-    let e : deepest (printed registry query) ≡ query_need query = query_printed registry valid query r.good.head r.good.filters r.good.conds in
-    record { head = r.good.head; filters = r.good.filters; conds = r.good.conds; small = r.small; nests = omega arith }
+means_valid registry default text query valid d m = read_valid registry default text query valid d (read_as registry default text query (Ok query) m refl)

@@ -10,7 +10,7 @@ use Rattle.mt_query_spec.specs.Tokens.{Token, Word, OpenCurly, Mark, Sign, lexem
 use Rattle.mt_query_spec.specs.Tokens as t
 use Rattle.mt_query_spec.specs.Trees.{OfToken, OfTag, Label, NoLabel, Labelled, Repetition, Between, Rank, Atom, Item, Sequence, Choice, ExprTree, expr_tokens, label_tokens, repetition_tokens, maybe_tokens}
 use Rattle.mt_query_spec.specs.Trees as tree
-use Rattle.mt_query_spec.specs.Meaning.{number_of, or_first, undeclared, attrs_of_kind, first_of, least, again, at_label, label_place, label_places, labels, label_number, no_label, label_fault, range_fault, expr_of, expr_unknown, maybe_test, maybe_unknown}
+use Rattle.mt_query_spec.specs.Meaning.{number_of, or_first, undeclared, first_of, least, again, at_label, label_place, label_places, labels, label_number, no_label, label_fault, range_fault, expr_of, expr_unknown, maybe_test, maybe_unknown}
 use Rattle.mt_query_spec.specs.Printed.{name_at, bracketed, has_test, brackets_repeat, brackets_seq, brackets_choice, printed_test, printed_label, printed_tag, printed_turns, printed_expr}
 use Rattle.mt_query_spec.specs.Valid.{ValidMaybe, ValidExpr, HasNoLabel, has_label}
 use Rattle.mt_cql.proofs.Lexing.{past, Spells, then, word, number, blank, open_square, close_square, closing_tag, lexeme_spells}
@@ -48,10 +48,6 @@ kind_found registry kind v h = name_found (kind_names registry.kinds) kind (kind
 
 pub kind_named : (registry : Registry) (kind : ℕ) → ValidRegistry registry → kind < length registry.kinds → IsIdentifier (name_at (kind_names registry.kinds) kind)
 kind_named registry kind v h = name_fits (kind_names registry.kinds) kind (kinds_fit registry v) (kind_there registry kind h)
-
-attrs_found : (registry : Registry) (kind : ℕ) → ValidRegistry registry → kind < length registry.kinds
-    → attrs_of_kind registry (name_at (kind_names registry.kinds) kind) ≡ kind_attrs registry.kinds kind
-attrs_found registry kind v h = ap (λ found. elim found [ Some k ↦ kind_attrs registry.kinds k | None ↦ [] ]) (kind_found registry kind v h)
 
 -- ## Signs
 

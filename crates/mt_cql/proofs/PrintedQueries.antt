@@ -13,8 +13,8 @@ use Rattle.mt_query_spec.specs.Trees as tree
 use Rattle.mt_query_spec.specs.Meaning.{number_of, or_first, undeclared, first_of, least_of, least, labels, label_place, label_places, kept_label, kind_of, FilterOf, chained, filters_of, filters_unknown, filters_range_fault, filters_label_fault, cond_of, cond_unknown, missing_label, cond_label_fault, conds_label_fault, conds_unknown, query_of, query_unknown, query_range_fault, query_label_fault}
 use Rattle.mt_query_spec.specs.Meaning as meaning
 use Rattle.mt_query_spec.specs.Printed.{name_at, bracketed, printed_expr, printed_kind, has_filters, printed_filters, printed_side, printed_cond, printed_conds, printed}
-use Rattle.mt_query_spec.specs.Valid.{ValidExpr, HasNoLabel, has_label, ValidFilters, ValidConds, ValidQuery}
-use Rattle.mt_query_spec.specs.Verdicts.{Means, written, is_too_long, verdict}
+use Rattle.mt_query_spec.specs.Valid.{ValidExpr, HasNoLabel, has_label, ValidFilters, ValidConds, ValidQuery, IsReadAs}
+use Rattle.mt_query_spec.specs.Verdicts.{Means, written, is_too_long}
 use Rattle.mt_cql.proofs.Lexing.{past, lexed, Spells, then, word, number}
 use Rattle.mt_cql.proofs.PrintedTests.{name_fits, name_found, open_round, close_round, and_sign}
 use Rattle.mt_cql.proofs.PrintedExprs.{attrs_fit, respell, least_none, WrittenExpr, expr_reads}
@@ -291,9 +291,6 @@ abbrev pub counted : (n k : ℕ) → List ℕ
 counted n zero = []
 counted n (suc k) = n ∷ counted (suc n) k
 
-same_eq : (n : ℕ) → nat_eq n n ≡ true
-same_eq n = grind (arith, nat_tests)
-
 pub either_true : (p q : Bool) → (p || q) ≡ true → (p ≡ true) ⊎ (q ≡ true)
 either_true true q h = inl refl
 either_true false q h = inr h
@@ -390,21 +387,30 @@ module _ (registry : Registry) (valid : ValidRegistry registry) (head : q.Expr) 
         labelled = rw (w.labelled, m.labelled, c.labelled) refl;
       }
 
+-- a valid query is read from its printed text, under any default attribute
+pub printed_read : (registry : Registry) (default : ℕ) (query : q.Query) → ValidRegistry registry → ValidQuery registry query → IsReadAs registry default (printed registry query) query
+unfolding t.tokens_from
+printed_read registry default query valid v =
+    let w = query_reads registry valid query.head v.head query.filters query.conds v.filters v.conds in
+    let e : lexed 0 (printed registry query) ≡ (query_tokens w.tree, None) =
+    ap (lexed 0) (sym (append-nil (printed registry query))) ∙ w.spelled.is ∙ ap (λ (x : List Token). (x, None)) (append-nil (query_tokens w.tree)) in
+    record {
+      part = w.tree;
+      whole = ap (λ (l : List Token × Option (ℕ × t.Unlexed)). l.1) e;
+      tokens = sym (ap (λ (l : List Token × Option (ℕ × t.Unlexed)). l.0) e);
+      nests = v.nests;
+      obeys = rw (w.ranged, w.labelled, w.known, w.means default, v.small) refl;
+    }
+
 short_enough : (registry : Registry) (query : q.Query) → length (printed registry query) ≤ 4096 → deepest (printed registry query) ≤ 32 → is_too_long (printed registry query) ≡ false
 short_enough registry query h k = go (length (printed registry query)) (deepest (printed registry query)) h k
   where
     go : (n d : ℕ) → n ≤ 4096 → d ≤ 32 → (nat_lt 4096 n || nat_lt 32 d) ≡ false
     go n d h k = let a : nat_lt 4096 n ≡ false = grind (arith, nat_tests) in let b : nat_lt 32 d ≡ false = grind (arith, nat_tests) in rw (a, b) refl
 
--- a valid query is read from its printed text, under any default attribute, where that is not too long
+-- and so it is what its printed text means, where that is not too long
 pub printed_means : (registry : Registry) (default : ℕ) (query : q.Query) → ValidRegistry registry → ValidQuery registry query → length (printed registry query) ≤ 4096
     → Means registry default (printed registry query) (Ok query)
-unfolding t.tokens_from
 printed_means registry default query valid v short =
-    let w = query_reads registry valid query.head v.head query.filters query.conds v.filters v.conds in
-    let text = printed registry query in
-    let e : lexed 0 (printed registry query) ≡ (query_tokens w.tree, None) =
-    ap (lexed 0) (sym (append-nil (printed registry query))) ∙ w.spelled.is ∙ ap (λ (x : List Token). (x, None)) (append-nil (query_tokens w.tree)) in
-    let said : verdict registry default w.tree ≡ Ok query = rw (w.ranged, w.labelled, w.known, w.means default, v.small) refl in
-    subst (λ x. Means registry default (printed registry query) x) said
-    (written (short_enough registry query short v.nests) (ap (λ (l : List Token × Option (ℕ × t.Unlexed)). l.1) e) w.tree (sym (ap (λ (l : List Token × Option (ℕ × t.Unlexed)). l.0) e)))
+    let r = printed_read registry default query valid v in
+    subst (λ x. Means registry default (printed registry query) x) r.obeys (written (short_enough registry query short v.nests) r.whole r.part r.tokens)

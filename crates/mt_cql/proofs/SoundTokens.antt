@@ -95,6 +95,7 @@ number_sound at b rest found d h = go (nat_lt (prefix_len is_ascii_digit rest) 9
   where
     n : ℕ
     n = prefix_len is_ascii_digit rest
+
     go : (q : Bool) → nat_lt (prefix_len is_ascii_digit rest) 9 ≡ q
         → ◌≡◌ {A = t.Lexeme} (cond q (Ok (Number at (decimal_value 0 (b ∷ take (prefix_len is_ascii_digit rest) rest)), prefix_len is_ascii_digit rest)) (Err NoToken)) (Ok found) → Sound found.0
     go true e h =
@@ -118,6 +119,7 @@ sign_sound at b rest found h = go (b == 123) (t.long_sign b rest) (t.sign_of b) 
   where
     marked : (sign : t.Sign) (n : ℕ) → ◌≡◌ {A = t.Lexeme} (Ok (Mark sign, n)) (Ok found) → Sound found.0
     marked sign n h = let k : ◌≡◌ {A = Token × ℕ} (Mark sign, n) found = cc in subst (λ (f : Token × ℕ). Sound f.0) k tt
+
     go : (q : Bool) (long : Option (t.Sign × ℕ)) (short : Option t.Sign)
         → ◌≡◌ {A = t.Lexeme} (cond q (Ok (OpenCurly at, 0)) (elim long [
           | Some f ↦ Ok (Mark f.0, f.1)

@@ -1,6 +1,6 @@
 -- A query that is read from a text is valid.
 use Rattle.std.proofs.Common.{ℕ, zero, suc, ◌+◌, ◌≡◌, ◌<◌, ◌≤◌, Bool, true, false, List, [], ◌∷◌, ◌++◌, None, Some, Option, Ok, refl, sym, ◌∙◌, ap, arith, length, map, nat_eq, nat_lt, subst, inl, inr}
-use Rattle.std.specs.Prelude.{cond, ◌&&◌, is_some, Result}
+use Rattle.std.specs.Prelude.{◌||◌, cond, ◌&&◌, is_some, Result}
 use Rattle.std.proofs.lemmas.Bool.Decides.{nat_tests}
 use Rattle.std.proofs.lemmas.List.{length-map}
 use Rattle.mt_text_spec.specs.Registries.{Registry, Attr, attr_names}
@@ -11,8 +11,8 @@ use Rattle.mt_query_spec.specs.Trees.{Choice, ExprTree, expr_tokens, op_tokens, 
 use Rattle.mt_query_spec.specs.Trees as tree
 use Rattle.mt_query_spec.specs.Meaning.{number_of, or_first, undeclared, first_of, least_of, least, label_place, label_places, kept_label, FilterOf, FilterMeaning, chained, expr_of, expr_unknown, range_fault, label_fault, filters_of, filters_unknown, filters_range_fault, filters_label_fault, cond_of, cond_unknown, missing_label, cond_label_fault, conds_label_fault, conds_unknown, query_of, query_unknown, query_range_fault, query_label_fault}
 use Rattle.mt_query_spec.specs.Meaning as meaning
-use Rattle.mt_query_spec.specs.Valid.{ValidExpr, HasNoLabel, has_label, ValidFilters, ValidCond, ValidConds}
-use Rattle.mt_query_spec.specs.Verdicts.{plain, Refusal, Means, too_long, unlexed, no_query, cut_short, written, is_too_great, is_too_long, judged, worst}
+use Rattle.mt_query_spec.specs.Valid.{ValidExpr, HasNoLabel, has_label, ValidFilters, ValidCond, ValidConds, IsReadAs}
+use Rattle.mt_query_spec.specs.Verdicts.{Refusal, Means, too_long, unlexed, no_query, cut_short, written, is_too_great, judged, worst}
 use Rattle.mt_cql.proofs.SoundTokens.{AllSound, sound_front, sound_back, tokens_sound}
 use Rattle.mt_cql.proofs.ValidTests.{declared, first_none}
 use Rattle.mt_cql.proofs.PrintedQueries.{counted, either_true, both_true}
@@ -75,9 +75,9 @@ placed_back : (f : ℕ → Option ℕ) (label n k : ℕ) → meaning.has_label n
 placed_back f label n zero h = cc
 placed_back f label n (suc k) h = elim (either_true (nat_eq label n && is_some (f n)) (meaning.has_label (suc n) (map f (counted (suc n) k)) label) h) [
   | inl a ↦
-    let b = both_true (nat_eq label n) (is_some (f n)) a in
-    let e : label ≡ n = same label n b.0 in
-    record { there = ap (λ m. is_some (f m)) e ∙ b.1; low = omega arith; high = omega arith }
+      let b = both_true (nat_eq label n) (is_some (f n)) a in
+      let e : label ≡ n = same label n b.0 in
+      record { there = ap (λ m. is_some (f m)) e ∙ b.1; low = omega arith; high = omega arith }
   | inr b ↦ let p = placed_back f label (suc n) k b in record { there = p.there; low = omega (arith, p.low); high = omega (arith, p.high) }
 ]
   where
@@ -161,32 +161,38 @@ given None (Some label) unknown great meant query h = cc
 given (Some range) None unknown great meant query h = cc
 given (Some range) (Some label) unknown great meant query h = cc
 
--- a reading of a text as a query that keeps all rules
-pub record ReadAs (registry : Registry) (default : ℕ) (text : List ℕ) (query : q.Query) : Type 0 where
-  pub part : QueryTree
-  pub tokens : query_tokens part ≡ plain (tokens_of text).tokens
-  pub whole : (tokens_of text).stop ≡ None
-  pub short : is_too_long text ≡ false
+-- what is known of a query that is read, but for its nesting
+pub record GoodReading (registry : Registry) (default : ℕ) (part : QueryTree) (query : q.Query) : Type 0 where
   pub is : query_of registry default part ≡ query
   pub good : GoodQuery registry query
   pub small : is_too_great query ≡ false
 
-pub read_as : (registry : Registry) (default : ℕ) (text : List ℕ) (query : q.Query) → default < length registry.attrs → (said : Result q.Query Refusal) → Means registry default text said → said ≡ Ok query
-    → ReadAs registry default text query
-read_as registry default text query d said (too_long long) e = cc
-read_as registry default text query d said (unlexed short at why stop b) e = cc
-read_as registry default text query d said (no_query short number at token there b never) e = cc
-read_as registry default text query d said (cut_short short stop b never) e = cc
-read_as registry default text query d said (written short stop part w) e =
-    let g = given (query_range_fault part) (query_label_fault part) (query_unknown registry part) (is_too_great (query_of registry default part)) (query_of registry default part) query e in
+pub good_reading : (registry : Registry) (default : ℕ) (text : List ℕ) (query : q.Query) → default < length registry.attrs → (r : IsReadAs registry default text query)
+    → GoodReading registry default r.part query
+good_reading registry default text query d r =
+    let g = given (query_range_fault r.part) (query_label_fault r.part) (query_unknown registry r.part) (is_too_great (query_of registry default r.part)) (query_of registry default r.part) query r.obeys in
     let l = length-map registry.attrs (λ (attr : Attr). attr.name) in
-    let s : AllSound (query_tokens part) = subst AllSound (sym w) (tokens_sound 0 0 text) in
+    let s : AllSound (query_tokens r.part) = subst AllSound (sym r.tokens) (tokens_sound 0 0 text) in
     record {
-      part = part;
-      tokens = w;
-      whole = stop;
-      short = short;
       is = g.is;
-      good = subst (GoodQuery registry) g.is (query_good registry default (omega arith) part s g.known g.ranged g.labelled);
+      good = subst (GoodQuery registry) g.is (query_good registry default (omega arith) r.part s g.known g.ranged g.labelled);
       small = sym (ap is_too_great g.is) ∙ g.small;
     }
+
+deep_enough : (n d : ℕ) → (nat_lt 4096 n || nat_lt 32 d) ≡ false → d ≤ 32
+deep_enough n d h = go (nat_lt 4096 n) (nat_lt 32 d) refl h
+  where
+    go : (p q : Bool) → nat_lt 32 d ≡ q → (p || q) ≡ false → d ≤ 32
+    go true q e h = cc
+    go false true e h = cc
+    go false false e h = grind (arith, nat_tests)
+
+-- what a text means it is read as
+pub read_as : (registry : Registry) (default : ℕ) (text : List ℕ) (query : q.Query) (said : Result q.Query Refusal) → Means registry default text said → said ≡ Ok query
+    → IsReadAs registry default text query
+read_as registry default text query said (too_long long) e = cc
+read_as registry default text query said (unlexed short at why stop b) e = cc
+read_as registry default text query said (no_query short number at token there b never) e = cc
+read_as registry default text query said (cut_short short stop b never) e = cc
+read_as registry default text query said (written short stop part w) e =
+    record { part = part; whole = stop; tokens = w; nests = deep_enough (length text) (deepest text) short; obeys = e }

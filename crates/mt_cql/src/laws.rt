@@ -6,7 +6,7 @@ ghost use Rattle.mt_text_spec.specs.Queries.{Query};
 ghost use Rattle.mt_query_spec.specs.Trees.{QueryTree, query_tokens};
 ghost use Rattle.mt_query_spec.specs.Verdicts.{Means, Refusal};
 ghost use Rattle.mt_query_spec.specs.Printed.{printed};
-ghost use Rattle.mt_query_spec.specs.Valid.{ValidQuery};
+ghost use Rattle.mt_query_spec.specs.Valid.{ValidQuery, IsReadAs};
 
 /// Each list of tokens is written for one query at most.
 pub fn one_reading()
@@ -24,14 +24,22 @@ pub fn one_meaning()
         → Means registry default text said → Means registry default text other → said ≡ other }
 {}
 
-/// A valid query is read from its printed text, under any default attribute, where that text has at most 4,096 bytes.
+/// A valid query is what its printed text means, under any default attribute, where that text has at most 4,096 bytes.
 pub fn printed_is_read()
     ensures { (registry : Registry) (default : ℕ) (query : Query) → ValidRegistry registry → ValidQuery registry query → length (printed registry query) ≤ 4096
         → Means registry default (printed registry query) (Ok query) }
 {}
 
-/// Each query that a text is read as is valid.
+/// Each query that a text means is valid.
 pub fn read_is_valid()
     ensures { (registry : Registry) (default : ℕ) (text : List ℕ) (query : Query) → ValidRegistry registry → default < length registry.attrs
         → Means registry default text (Ok query) → ValidQuery registry query }
+{}
+
+/// A query is valid exactly where some text is read as it, of whatever length: its printed text then is, under any default attribute.
+pub fn valid_where_read()
+    ensures read { (registry : Registry) (default : ℕ) (query : Query) → ValidRegistry registry → ValidQuery registry query
+        → IsReadAs registry default (printed registry query) query }
+    ensures valid { (registry : Registry) (default : ℕ) (text : List ℕ) (query : Query) → ValidRegistry registry → default < length registry.attrs
+        → IsReadAs registry default text query → ValidQuery registry query }
 {}

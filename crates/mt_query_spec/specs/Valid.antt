@@ -1,9 +1,10 @@
--- When a query is valid: where some text is read as it, whatever the length of that text.
-use Rattle.std.specs.Prelude.{ℕ, ◌≡◌, ◌==◌, ◌&&◌, ◌||◌, ◌^◌, ◌<◌, ◌≤◌, not, nat_eq, nat_lt, Bool, true, false, List, [], ◌∷◌, length}
-use Rattle.mt_text_spec.specs.Registries.{Registry, attr_names, kind_names, kind_attrs}
+-- When a query is valid, and when a text of whatever length is read as it.
+use Rattle.std.specs.Prelude.{ℕ, ◌≡◌, ◌==◌, ◌&&◌, ◌||◌, ◌^◌, ◌<◌, ◌≤◌, not, nat_eq, nat_lt, Bool, true, false, List, [], ◌∷◌, length, None, Ok}
+use Rattle.mt_text_spec.specs.Registries.{Registry, attr_names, kind_attrs}
 use Rattle.mt_text_spec.specs.Queries.{Test, Any, Pattern, Literal, Not, Both, Either, Expr, TokenTest, Begin, End, Whole, Seq, Choice, Repeat, Filters, NoMore, More, Cond, Query}
-use Rattle.mt_query_spec.specs.Tokens.{deepest}
-use Rattle.mt_query_spec.specs.Verdicts.{is_too_great}
+use Rattle.mt_query_spec.specs.Tokens.{tokens_of, deepest}
+use Rattle.mt_query_spec.specs.Trees.{QueryTree, query_tokens}
+use Rattle.mt_query_spec.specs.Verdicts.{plain, verdict, is_too_great}
 use Rattle.mt_query_spec.specs.Printed.{printed}
 
 -- no backslash takes a `"`, and each takes some byte; `taken` says whether one stands before
@@ -76,3 +77,11 @@ pub record ValidQuery (registry : Registry) (query : Query) : Type 0 where
   pub conds : ValidConds registry query.head query.conds
   pub small : is_too_great query ≡ false
   pub nests : deepest (printed registry query) ≤ 32
+
+-- A text is read as a query and obeys all rules, but that it may be of any length.
+pub record IsReadAs (registry : Registry) (default : ℕ) (text : List ℕ) (query : Query) : Type 0 where
+  pub part : QueryTree
+  pub whole : (tokens_of text).stop ≡ None
+  pub tokens : query_tokens part ≡ plain (tokens_of text).tokens
+  pub nests : deepest text ≤ 32
+  pub obeys : verdict registry default part ≡ Ok query
