@@ -6,3 +6,4 @@ pub mod Reading
 pub mod Shape
 pub mod Texts
 pub mod Named
+pub mod TestSeen
