@@ -7,3 +7,4 @@ pub mod Shape
 pub mod Texts
 pub mod Named
 pub mod TestSeen
+pub mod StateSeen

@@ -8,6 +8,7 @@ mod names;
 mod parts;
 mod query;
 mod stack;
+mod state;
 mod test_reader;
 mod text;
 mod token;
