@@ -1,10 +1,13 @@
 -- What the state of a query that is being read stands for.
-use Rattle.std.specs.Prelude.{ℕ, List, Option, None, Some, map}
+use Rattle.std.specs.Prelude.{ℕ, List, Option, None, Some, map, Result}
 use Rattle.mt_query_spec.specs.Trees as tree
 use Rattle.mt_cql.specs.declared.parts.Part.{Part}
 use Rattle.mt_cql.specs.declared.parts.FiltersPart.{FiltersPart}
 use Rattle.mt_cql.specs.declared.query.FilterKind.{FilterKind}
 use Rattle.mt_cql.specs.declared.query.FilterKind.TheVariants as kind
+use Rattle.mt_text_spec.specs.Queries.{Query}
+use Rattle.mt_query_spec.specs.Verdicts.{Refusal}
+use Rattle.mt_cql.specs.declared.reader.Reader.{Reader}
 use Rattle.mt_cql.specs.declared.state.Group.{Group}
 use Rattle.mt_cql.specs.declared.state.Op.{Op}
 use Rattle.mt_cql.specs.declared.state.Head.{Head}
@@ -105,3 +108,7 @@ state_seen (state.CondRead asked conds) = e.CondRead (asked_seen asked) (conds_s
 abbrev pub maybe_state_seen : Option State → Option PartState
 maybe_state_seen None = None
 maybe_state_seen (Some state) = Some (state_seen state)
+
+-- how a query is built under a registry and an attribute of bare strings
+abbrev pub ways : Reader → e.Ways (λ of. p.TestParts) p.Parts p.FilterParts p.CondsPart (Result Query Refusal)
+ways reader = p.part_ways reader.registry.now reader.default

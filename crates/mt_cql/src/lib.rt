@@ -7,6 +7,7 @@ mod lexer;
 mod names;
 mod parts;
 mod query;
+mod reader;
 mod stack;
 mod state;
 mod test_reader;

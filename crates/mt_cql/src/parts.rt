@@ -37,7 +37,7 @@ fn sum(left: u32, right: u32) -> u32
     left.saturating_add(right)
 }
 
-fn more(n: u32) -> u32
+pub fn more(n: u32) -> u32
     ensures { result ≡ spec.capped (n + 1) }
 {
     n.saturating_add(1)
