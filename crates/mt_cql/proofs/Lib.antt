@@ -12,3 +12,4 @@ pub mod Words
 pub mod Chains
 pub mod Numbering
 pub mod Unescaping
+pub mod Opening

@@ -1,5 +1,5 @@
 -- What the state of a query that is being read stands for.
-use Rattle.std.specs.Prelude.{ℕ, List, Option, None, Some, map, Result}
+use Rattle.std.specs.Prelude.{ℕ, List, Option, None, Some, map, Result, Bool, not, nat_eq, ◌&&◌, is_none, length}
 use Rattle.mt_query_spec.specs.Trees as tree
 use Rattle.mt_cql.specs.declared.parts.Part.{Part}
 use Rattle.mt_cql.specs.declared.parts.FiltersPart.{FiltersPart}
@@ -85,6 +85,10 @@ maybe_asked_seen (Some asked) = Some (asked_seen asked)
 abbrev pub maybe_filtered_seen : Option (Asked × List Head) → Option (e.Asked p.Parts p.FilterParts × List (e.Head p.Parts p.FilterParts))
 maybe_filtered_seen None = None
 maybe_filtered_seen (Some found) = Some (asked_seen found.0, map head_seen found.1)
+
+-- whether a `(` behind an op, with this before it and these outside, opens an operand with filters
+abbrev pub opens : Group → List Group → List Head → Bool
+opens group groups heads = nat_eq (length groups) 0 && not (nat_eq (length heads) 0) && is_none group.sequence && is_none group.branches
 
 abbrev pub state_seen : State → PartState
 state_seen (state.Wanted place) = e.Wanted (place_seen place)

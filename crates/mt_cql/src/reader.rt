@@ -40,7 +40,7 @@ impl<'a> Reader<'a> {
     }
 
     /// An item is read.
-    fn item_read(&self, item: Part, place: Place) -> Result<Option<State<'a>>, NoMemory>
+    pub fn item_read(&self, item: Part, place: Place) -> Result<Option<State<'a>>, NoMemory>
         ensures { IfOk result (λ next. maybe_state_seen next ≡ Some (exprs.item_read (ways self.now) (part_seen item) (place_seen place))) }
     {
         let Place { before, around } = place;
@@ -122,7 +122,7 @@ impl<'a> Reader<'a> {
 
     /// The next token behind a label's number.
     #[tactic(auto, unfolding(crate::specs::Exprs::label_step))]
-    fn label_step(
+    pub fn label_step(
         &self,
         at: u32,
         number: u32,
@@ -139,7 +139,7 @@ impl<'a> Reader<'a> {
 
     /// The next token behind a label's colon.
     #[tactic(auto, unfolding(crate::specs::Exprs::labelled_step))]
-    fn labelled_step(
+    pub fn labelled_step(
         &self,
         at: u32,
         number: u32,
@@ -209,7 +209,7 @@ impl<'a> Reader<'a> {
 
     /// The next token inside `[` and `]`.
     #[tactic(auto, unfolding(crate::specs::Exprs::token_step))]
-    fn token_step(
+    pub fn token_step(
         &self,
         label: Label,
         test: TestState<'a>,
@@ -227,7 +227,7 @@ impl<'a> Reader<'a> {
 
     /// The next token behind `[`.
     #[tactic(auto, unfolding(crate::specs::Exprs::opened_step))]
-    fn opened_step(
+    pub fn opened_step(
         &self,
         label: Label,
         place: Place,
