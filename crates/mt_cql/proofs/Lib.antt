@@ -13,3 +13,6 @@ pub mod Chains
 pub mod Numbering
 pub mod Unescaping
 pub mod Opening
+pub mod Cutting
+pub mod TextLaws
+pub mod Answering

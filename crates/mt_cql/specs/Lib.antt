@@ -8,3 +8,5 @@ pub mod Texts
 pub mod Named
 pub mod TestSeen
 pub mod StateSeen
+pub mod TextSeen
+pub mod Answered

@@ -7,6 +7,8 @@ use Rattle.mt_cql.specs.declared.query.FilterKind.{FilterKind}
 use Rattle.mt_cql.specs.declared.query.FilterKind.TheVariants as kind
 use Rattle.mt_text_spec.specs.Queries.{Query}
 use Rattle.mt_query_spec.specs.Verdicts.{Refusal}
+use Rattle.mt_query_spec.specs.Verdicts as v
+use Rattle.mt_cql.specs.declared.query.Cause.{Cause}
 use Rattle.mt_cql.specs.declared.reader.Reader.{Reader}
 use Rattle.mt_cql.specs.declared.state.Group.{Group}
 use Rattle.mt_cql.specs.declared.state.Op.{Op}
@@ -18,12 +20,13 @@ use Rattle.mt_cql.specs.declared.state.Counting.TheVariants as counting
 use Rattle.mt_cql.specs.declared.state.Condition.{Condition}
 use Rattle.mt_cql.specs.declared.state.Condition.TheVariants as condition
 use Rattle.mt_cql.specs.declared.state.Asked.{Asked}
+use Rattle.mt_cql.specs.declared.conds.Written.{Written}
 use Rattle.mt_cql.specs.declared.state.State.{State}
 use Rattle.mt_cql.specs.declared.state.State.TheVariants as state
 use Rattle.mt_cql.specs.Parts as p
 use Rattle.mt_cql.specs.Exprs as e
 use Rattle.mt_cql.specs.Reading.{PartState}
-use Rattle.mt_cql.specs.Shape.{part_seen, filters_seen, conds_seen, label_seen}
+use Rattle.mt_cql.specs.Shape.{part_seen, filters_seen, conds_seen, label_seen, cause_seen}
 use Rattle.mt_cql.specs.TestSeen.{test_state_seen}
 
 abbrev pub maybe_part_seen : Option Part → Option p.Part
@@ -67,12 +70,26 @@ counting_seen (counting.Most n_at n m_at m) = e.Most n_at n m_at m
 
 abbrev pub condition_seen : Condition → e.Condition
 condition_seen condition.Started = e.Started
-condition_seen (condition.Left at n) = e.Left at n
-condition_seen (condition.LeftDot at n) = e.LeftDot at n
-condition_seen (condition.LeftName at n name_at name) = e.LeftName at n name_at name.now
-condition_seen (condition.Compared at n name_at name equal) = e.Compared at n name_at name.now equal
-condition_seen (condition.Right at n name_at name equal right_at right) = e.Right at n name_at name.now equal right_at right
-condition_seen (condition.RightDot at n name_at name equal right_at right) = e.RightDot at n name_at name.now equal right_at right
+condition_seen (condition.Left at number) = e.Left at number
+condition_seen (condition.LeftDot at number) = e.LeftDot at number
+condition_seen (condition.LeftName left) = e.LeftName left.at left.number left.name_at left.name.now
+condition_seen (condition.Compared left equal) = e.Compared left.at left.number left.name_at left.name.now equal
+condition_seen (condition.Right left equal at number) = e.Right left.at left.number left.name_at left.name.now equal at number
+condition_seen (condition.RightDot left equal at number) = e.RightDot left.at left.number left.name_at left.name.now equal at number
+
+-- a condition that was read
+abbrev pub cond_tree_seen : Written → tree.CondTree
+cond_tree_seen written = record {
+  left_at = written.left.at;
+  left = written.left.number;
+  left_name_at = written.left.name_at;
+  left_name = written.left.name.now;
+  equal = written.equal;
+  right_at = written.right.at;
+  right = written.right.number;
+  right_name_at = written.right.name_at;
+  right_name = written.right.name.now;
+}
 
 abbrev pub asked_seen : Asked → e.Asked p.Parts p.FilterParts
 asked_seen asked = record { choice = part_seen asked.choice; filters = maybe_filters_seen asked.filters }
@@ -116,3 +133,8 @@ maybe_state_seen (Some state) = Some (state_seen state)
 -- how a query is built under a registry and an attribute of bare strings
 abbrev pub ways : Reader → e.Ways (λ of. p.TestParts) p.Parts p.FilterParts p.CondsPart (Result Query Refusal)
 ways reader = p.part_ways reader.registry.now reader.default
+
+-- a place at fault with its cause
+abbrev pub fault_seen : Option (ℕ × Cause) → Option (ℕ × v.Cause)
+fault_seen None = None
+fault_seen (Some fault) = Some (fault.0, cause_seen fault.1)

@@ -1,7 +1,14 @@
-//! The query language: its tokens, the parts of a query with what is at fault in them, and the laws of what a text means. The parser and the printer that will
-//! stand on them are not there yet.
+//! The query language. `parse` reads a query from its text, or refuses the text with a cause and a place.
+//!
+//! A text is read token by token (`lexer`), and each token takes the `State` that the reading is in to the next (`reader`, `tag_reader`, `test_reader`, `choice_reader`, `cond_reader`), until no query goes on so or the text ends (`ending`).
+//! What is read is kept as parts of the query, each with what is at fault in it (`parts`, `conds`). `laws` says that each text means one thing.
 #![tactic(auto)]
 
+mod choice_reader;
+mod cond_reader;
+mod conds;
+mod each_step;
+mod ending;
 mod laws;
 mod lexer;
 mod names;
@@ -14,7 +21,9 @@ mod state;
 mod tag_reader;
 mod test_reader;
 mod text;
+mod text_reader;
 mod token;
 
 pub use laws::{one_meaning, one_reading, some_meaning};
+pub use text_reader::parse;
 pub use query::{Cause, Cond, Expr, Filter, FilterKind, Filters, Query, QueryError, Test};

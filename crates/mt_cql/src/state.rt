@@ -61,48 +61,43 @@ pub enum Counting {
     },
 }
 
+/// A label in a condition, with the name of an attribute.
+#[derive(Clone, Copy, Drop)]
+pub struct Side<'a> {
+    pub at: u32,
+    pub number: u32,
+    pub name_at: u32,
+    pub name: &'a str,
+}
+
 /// What of a condition is read behind its `&`.
 #[derive(Clone, Copy, Drop)]
 pub enum Condition<'a> {
     Started,
     Left {
         at: u32,
-        n: u32,
+        number: u32,
     },
     LeftDot {
         at: u32,
-        n: u32,
+        number: u32,
     },
-    LeftName {
-        at: u32,
-        n: u32,
-        name_at: u32,
-        name: &'a str,
-    },
+    LeftName(Side<'a>),
     Compared {
-        at: u32,
-        n: u32,
-        name_at: u32,
-        name: &'a str,
+        left: Side<'a>,
         equal: bool,
     },
     Right {
-        at: u32,
-        n: u32,
-        name_at: u32,
-        name: &'a str,
+        left: Side<'a>,
         equal: bool,
-        right_at: u32,
-        right: u32,
+        at: u32,
+        number: u32,
     },
     RightDot {
-        at: u32,
-        n: u32,
-        name_at: u32,
-        name: &'a str,
+        left: Side<'a>,
         equal: bool,
-        right_at: u32,
-        right: u32,
+        at: u32,
+        number: u32,
     },
 }
 
