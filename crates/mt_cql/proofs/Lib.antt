@@ -26,3 +26,7 @@ pub mod Nesting
 pub mod Depths
 pub mod Deep
 pub mod PrintedDepth
+pub mod Opening
+pub mod Cutting
+pub mod TextLaws
+pub mod Answering

@@ -7,3 +7,7 @@ pub mod Shape
 pub mod Texts
 pub mod Named
 pub mod Ranks
+pub mod TestSeen
+pub mod StateSeen
+pub mod TextSeen
+pub mod Answered

@@ -31,13 +31,13 @@ pub fn least_of(left: Option<u32>, right: Option<u32>) -> Option<u32>
     }
 }
 
-fn sum(left: u32, right: u32) -> u32
+pub fn sum(left: u32, right: u32) -> u32
     ensures { result ≡ spec.capped (left + right) }
 {
     left.saturating_add(right)
 }
 
-fn more(n: u32) -> u32
+pub fn more(n: u32) -> u32
     ensures { result ≡ spec.capped (n + 1) }
 {
     n.saturating_add(1)
@@ -168,7 +168,7 @@ fn no_label(label: Label) -> Option<u32>
 }
 
 /// A label as a query keeps it.
-fn kept_label(number: u32) -> u8
+pub fn kept_label(number: u32) -> u8
     ensures { result ≡ meaning.kept_label number }
 {
     if number < 10 { number as u8 } else { 0 }
@@ -345,7 +345,7 @@ pub struct FiltersPart {
 }
 
 /// The filters of a list, as a query keeps them.
-fn chained(alloc: Global, filters: List<Filter>) -> Result<Filters, NoMemory>
+pub fn chained(alloc: Global, filters: List<Filter>) -> Result<Filters, NoMemory>
     ensures { IfOk result (λ chain. filters_shape chain ≡ meaning.chained (map filter_seen filters)) }
 {
     let mut filters = Stack::of(filters.into_vec());
