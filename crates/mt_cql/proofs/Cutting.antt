@@ -71,12 +71,15 @@ sign_last at b rest token n h = either_way (b == 123) _ _ (Ok (token, n))
     sign_found : Option Sign → Lexeme
     sign_found None = Err NoToken
     sign_found (Some sign) = Ok (Mark sign, 0)
+
     found_of : Option (Sign × ℕ) → Lexeme
     found_of None = sign_found (sign_of b)
     found_of (Some found) = Ok (Mark found.0, found.1)
+
     one : (o : Option Sign) → sign_of b ≡ o → sign_found o ≡ Ok (token, n) → LastOf (b ∷ rest) n
     one None e x = cc
     one (Some sign) e x = let z : 0 ≡ n = one_length (Ok (Mark sign, 0)) (Mark sign) token 0 n refl x in at_first b n rest (sign_ascii b sign e) (sym z)
+
     long : (o : Option (Sign × ℕ)) → long_sign b rest ≡ o → found_of o ≡ Ok (token, n) → LastOf (b ∷ rest) n
     long (Some found) e x = let z : found.1 ≡ n = one_length (Ok (Mark found.0, found.1)) (Mark found.0) token found.1 n refl x in subst (λ k. LastOf (b ∷ rest) k) z (long_last b rest found e)
     long None e x = one (sign_of b) refl x
@@ -87,6 +90,7 @@ string_last b rest token n h = go (string_length false rest) refl h
     found_of : Option ℕ → Lexeme
     found_of None = Err NoEnd
     found_of (Some k) = Ok (Quoted (take k rest), suc k)
+
     go : (o : Option ℕ) → string_length false rest ≡ o → found_of o ≡ Ok (token, n) → LastOf (b ∷ rest) n
     go None e x = cc
     go (Some k) e x =
