@@ -1,15 +1,14 @@
 -- Where a token ends in its text, and the tokens behind it.
-use Rattle.std.proofs.Common.{ℕ, zero, suc, ◌+◌, ◌≡◌, ◌<◌, ◌≤◌, ◌⊎◌, inl, inr, Bool, true, false, List, [], ◌∷◌, None, Some, Option, Ok, Err, refl, sym, ◌∙◌, ap, subst, arith, length, drop, take, get_or, eqb}
+use Rattle.std.proofs.Common.{ℕ, zero, suc, ◌+◌, ◌≡◌, ◌<◌, ◌≤◌, Bool, true, false, List, [], ◌∷◌, None, Some, Option, Ok, Err, refl, sym, ◌∙◌, ap, subst, arith, length, drop, take, get_or}
 use Rattle.std.specs.Prelude.{cond, nat_lt, slice_index, ◌==◌, ◌&&◌}
 use Rattle.std.specs.List.{prefix_len}
 use Rattle.std.specs.Char.{is_ascii_digit}
 use Rattle.std.proofs.lemmas.Bool.{eqb-true}
 use Rattle.std.proofs.lemmas.List.Sums.{prefix_len_passes, prefix_len-le-length}
-use Rattle.std.proofs.lemmas.Bool.Decides.{nat_tests}
 use Rattle.mt_text_spec.specs.Words.{is_identifier_start, is_identifier_byte}
 use Rattle.mt_query_spec.specs.Tokens.{Token, Quoted, Number, Word, OpenCurly, Mark, Sign, Lexeme, NoEnd, NoToken, string_length, decimal_value, sign_of, long_sign, sign_at, string_at, number_at, word_at, lexeme, tokens_from}
 use Rattle.mt_query_spec.specs.Tokens as t
-use Rattle.mt_cql.proofs.Strings.{EndsAt, string_ends}
+use Rattle.mt_cql.proofs.Strings.{string_ends}
 use Rattle.mt_cql.proofs.Words.{LastOf, digit_range, word_ascii, start_ascii}
 
 -- ## The last byte of a token is ASCII
@@ -71,12 +70,15 @@ sign_last at b rest token n h = either_way (b == 123) _ _ (Ok (token, n))
     sign_found : Option Sign → Lexeme
     sign_found None = Err NoToken
     sign_found (Some sign) = Ok (Mark sign, 0)
+
     found_of : Option (Sign × ℕ) → Lexeme
     found_of None = sign_found (sign_of b)
     found_of (Some found) = Ok (Mark found.0, found.1)
+
     one : (o : Option Sign) → sign_of b ≡ o → sign_found o ≡ Ok (token, n) → LastOf (b ∷ rest) n
     one None e x = cc
     one (Some sign) e x = let z : 0 ≡ n = one_length (Ok (Mark sign, 0)) (Mark sign) token 0 n refl x in at_first b n rest (sign_ascii b sign e) (sym z)
+
     long : (o : Option (Sign × ℕ)) → long_sign b rest ≡ o → found_of o ≡ Ok (token, n) → LastOf (b ∷ rest) n
     long (Some found) e x = let z : found.1 ≡ n = one_length (Ok (Mark found.0, found.1)) (Mark found.0) token found.1 n refl x in subst (λ k. LastOf (b ∷ rest) k) z (long_last b rest found e)
     long None e x = one (sign_of b) refl x
@@ -87,6 +89,7 @@ string_last b rest token n h = go (string_length false rest) refl h
     found_of : Option ℕ → Lexeme
     found_of None = Err NoEnd
     found_of (Some k) = Ok (Quoted (take k rest), suc k)
+
     go : (o : Option ℕ) → string_length false rest ≡ o → found_of o ≡ Ok (token, n) → LastOf (b ∷ rest) n
     go None e x = cc
     go (Some k) e x =

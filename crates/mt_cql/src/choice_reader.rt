@@ -24,8 +24,9 @@ impl<'a> Reader<'a> {
         around: Around,
     ) -> Result<Option<State<'a>>, NoMemory>
         ensures { IfOk result (λ next. maybe_state_seen next ≡ Some (exprs.Wanted (record {
-            before = record { sequence = None; branches = Some (exprs.choice_of (ways self.now) (maybe_part_seen branches) (part_seen sequence)) };
-            around = around_seen around }))) }
+          before = record { sequence = None; branches = Some (exprs.choice_of (ways self.now) (maybe_part_seen branches) (part_seen sequence)) };
+          around = around_seen around;
+        }))) }
     {
         match self.choice_of(branches, sequence) {
             Err(e) => Err(e),
@@ -83,8 +84,9 @@ impl<'a> Reader<'a> {
         heads: Stack<Head>,
     ) -> Result<Option<State<'a>>, NoMemory>
         ensures { IfOk result (λ next. maybe_state_seen next ≡ Some (exprs.Wanted (exprs.choice_place (ways self.now) (record {
-            groups = [];
-            heads = record { choice = (asked_seen asked).choice; filters = (asked_seen asked).filters; op = whole_op_seen op } ∷ map head_seen heads })))) }
+          groups = [];
+          heads = record { choice = (asked_seen asked).choice; filters = (asked_seen asked).filters; op = whole_op_seen op } ∷ map head_seen heads;
+        })))) }
     {
         let mut heads = heads;
         let head = Head {
@@ -141,11 +143,7 @@ impl<'a> Reader<'a> {
     }
 
     /// A `&` behind a choice.
-    fn and_behind(
-        &self,
-        choice: Part,
-        around: Around,
-    ) -> Result<Option<State<'a>>, NoMemory>
+    fn and_behind(&self, choice: Part, around: Around) -> Result<Option<State<'a>>, NoMemory>
         ensures { IfOk result (λ next. maybe_state_seen next ≡ exprs.cond_begins (ways self.now)
             (exprs.asked_of (ways self.now) (part_seen choice) (map group_seen around.groups) (map head_seen around.heads)) (ways self.now).no_conds) }
     {

@@ -7,7 +7,7 @@ ghost use Rattle.mt_cql.specs.Seen.{token_seen};
 ghost use Rattle.mt_cql.specs.Shape.{conds_seen};
 ghost use Rattle.mt_cql.specs.StateSeen.{ways, asked_seen, condition_seen, cond_tree_seen, maybe_state_seen};
 
-use super::conds::{one_more, Written};
+use super::conds::{Written, one_more};
 use super::parts::CondsPart;
 use super::reader::Reader;
 use super::state::{Asked, Condition, Side, State};
@@ -116,12 +116,7 @@ impl<'a> Reader<'a> {
 
     /// The next token behind a condition.
     #[tactic(auto, unfolding(crate::specs::Exprs::conds_step))]
-    pub fn conds_step(
-        &self,
-        asked: Asked,
-        conds: CondsPart,
-        token: Token<'a>,
-    ) -> Option<State<'a>>
+    pub fn conds_step(&self, asked: Asked, conds: CondsPart, token: Token<'a>) -> Option<State<'a>>
         ensures { maybe_state_seen result ≡ exprs.conds_step (ways self.now) (asked_seen asked) (conds_seen conds) (token_seen token.entry) }
     {
         match token {

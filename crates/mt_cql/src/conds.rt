@@ -8,7 +8,7 @@ ghost use Rattle.mt_cql.specs.Shape.{cond_seen, part_seen, conds_seen};
 ghost use Rattle.mt_cql.specs.StateSeen.{cond_tree_seen};
 
 use super::names::{find_attr, or_first, undeclared};
-use super::parts::{first_of, kept_label, least_of, more, CondsPart, Part};
+use super::parts::{CondsPart, Part, first_of, kept_label, least_of, more};
 use super::query::Cond;
 use super::state::Side;
 use mt_base::{List, NoMemory, Registry};

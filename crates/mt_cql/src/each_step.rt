@@ -14,11 +14,7 @@ use mt_base::NoMemory;
 impl<'a> Reader<'a> {
     /// The next token of a query. No state is left where no query goes on so.
     #[tactic(auto, unfolding(crate::specs::Exprs::step))]
-    pub fn step(
-        &self,
-        state: State<'a>,
-        token: Token<'a>,
-    ) -> Result<Option<State<'a>>, NoMemory>
+    pub fn step(&self, state: State<'a>, token: Token<'a>) -> Result<Option<State<'a>>, NoMemory>
         requires { ValidRegistry self.now.registry.now }
         ensures { IfOk result (λ next. maybe_state_seen next ≡ exprs.step (ways self.now) (state_seen state.entry) (token_seen token.entry)) }
     {

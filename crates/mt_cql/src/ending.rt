@@ -9,7 +9,7 @@ ghost use Rattle.mt_cql.specs.Shape.{Said, query_seen, part_seen, filters_seen, 
 ghost use Rattle.mt_cql.specs.StateSeen.{ways, maybe_part_seen, around_seen, asked_seen, maybe_asked_seen, place_seen, state_seen, fault_seen};
 
 use super::conds::no_conds;
-use super::parts::{chained, first_of, least_of, sum, CondsPart, FiltersPart, Part};
+use super::parts::{CondsPart, FiltersPart, Part, chained, first_of, least_of, sum};
 use super::query::{Cause, Filters, Query, QueryError};
 use super::reader::Reader;
 use super::state::{Around, Asked, Place, State};

@@ -127,11 +127,7 @@ impl<'a> Reader<'a> {
 
     /// A choice ends before a `)`.
     #[tactic(auto, unfolding(crate::specs::Exprs::close_choice))]
-    pub fn close_choice(
-        &self,
-        choice: Part,
-        around: Around,
-    ) -> Result<Option<State<'a>>, NoMemory>
+    pub fn close_choice(&self, choice: Part, around: Around) -> Result<Option<State<'a>>, NoMemory>
         ensures { IfOk result (λ next. maybe_state_seen next
             ≡ exprs.close_choice (ways self.now) (part_seen choice) (map group_seen around.groups) (map head_seen around.heads)) }
     {

@@ -12,10 +12,10 @@ ghost use Rattle.mt_cql.specs.TestSeen.{test_state_seen};
 ghost use Rattle.mt_cql.specs.StateSeen.{ways, maybe_part_seen, place_seen, counting_seen, maybe_state_seen};
 
 use super::names::{find_kind, or_first, undeclared};
-use super::parts::{first_of, more, Label, Part, TestPart};
+use super::parts::{Label, Part, TestPart, first_of, more};
 use super::query::{Expr, Test};
-use super::state::{Counting, Group, Place, Around, State};
-use super::test_reader::{bare, test_start, test_step, whole_test, Names, TestState};
+use super::state::{Around, Counting, Group, Place, State};
+use super::test_reader::{Names, TestState, bare, test_start, test_step, whole_test};
 use super::token::{Sign, Token};
 use mt_base::{NoMemory, Registry};
 use std::alloc::Global;
@@ -95,11 +95,7 @@ impl<'a> Reader<'a> {
 
     /// The next token where an item is wanted.
     #[tactic(auto, unfolding(crate::specs::Exprs::begin_step))]
-    pub fn begin_step(
-        &self,
-        place: Place,
-        token: Token<'a>,
-    ) -> Result<Option<State<'a>>, NoMemory>
+    pub fn begin_step(&self, place: Place, token: Token<'a>) -> Result<Option<State<'a>>, NoMemory>
         ensures { IfOk result (λ next. maybe_state_seen next ≡ exprs.begin_step (ways self.now) (place_seen place) (token_seen token.entry)) }
     {
         match token {

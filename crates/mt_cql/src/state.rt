@@ -112,7 +112,9 @@ pub struct Asked {
 #[derive(Drop)]
 pub enum State<'a> {
     /// An item is wanted.
-    Wanted { place: Place },
+    Wanted {
+        place: Place,
+    },
     LabelRead {
         at: u32,
         number: u32,
@@ -125,14 +127,19 @@ pub enum State<'a> {
         place: Place,
     },
     /// A `[` is read.
-    TokenOpened { label: Label, place: Place },
+    TokenOpened {
+        label: Label,
+        place: Place,
+    },
     InToken {
         label: Label,
         test: TestState<'a>,
         place: Place,
     },
     /// A `<` is read.
-    TagOpened { place: Place },
+    TagOpened {
+        place: Place,
+    },
     TagNamed {
         at: u32,
         name: &'a str,
@@ -145,14 +152,19 @@ pub enum State<'a> {
         place: Place,
     },
     /// A `</` is read.
-    ClosingOpened { place: Place },
+    ClosingOpened {
+        place: Place,
+    },
     ClosingNamed {
         at: u32,
         name: &'a str,
         place: Place,
     },
     /// An atom is read, which may be repeated.
-    AtomRead { atom: Part, place: Place },
+    AtomRead {
+        atom: Part,
+        place: Place,
+    },
     InRepeat {
         atom: Part,
         at: u32,
@@ -172,11 +184,17 @@ pub enum State<'a> {
         heads: Stack<Head>,
     },
     /// The `!` of an op is read.
-    BangRead { asked: Asked, heads: Stack<Head> },
+    BangRead {
+        asked: Asked,
+        heads: Stack<Head>,
+    },
     InCond {
         asked: Asked,
         conds: CondsPart,
         cond: Condition<'a>,
     },
-    CondRead { asked: Asked, conds: CondsPart },
+    CondRead {
+        asked: Asked,
+        conds: CondsPart,
+    },
 }

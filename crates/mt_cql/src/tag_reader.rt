@@ -12,11 +12,11 @@ ghost use Rattle.mt_cql.specs.TestSeen.{test_state_seen};
 ghost use Rattle.mt_cql.specs.StateSeen.{ways, place_seen, counting_seen, maybe_state_seen};
 
 use super::names::{find_kind, or_first, undeclared};
-use super::parts::{first_of, more, Part, TestPart};
+use super::parts::{Part, TestPart, first_of, more};
 use super::query::{Expr, Test};
 use super::reader::Reader;
 use super::state::{Counting, Place, State};
-use super::test_reader::{test_start, test_step, whole_test, Names, TestState};
+use super::test_reader::{Names, TestState, test_start, test_step, whole_test};
 use super::token::{Sign, Token};
 use mt_base::NoMemory;
 
@@ -279,12 +279,24 @@ impl<'a> Reader<'a> {
             (Counting::Least { n_at: _, n }, Token::Mark(Sign::CloseCurly)) => {
                 return self.repeated(atom, n, n, None, place);
             }
-            (Counting::Least { n_at, n }, Token::Mark(Sign::Comma)) => Counting::LeastComma { n_at, n },
+            (Counting::Least { n_at, n }, Token::Mark(Sign::Comma)) => Counting::LeastComma {
+                n_at,
+                n,
+            },
             (Counting::LeastComma { n_at: _, n }, Token::Mark(Sign::CloseCurly)) => {
                 return self.repeated(atom, n, n.max(100), None, place);
             }
-            (Counting::LeastComma { n_at, n }, Token::Number { at: m_at, value: m }) => Counting::Most { n_at, n, m_at, m },
-            (Counting::Most { n_at: _, n, m_at: _, m }, Token::Mark(Sign::CloseCurly)) => {
+            (Counting::LeastComma { n_at, n }, Token::Number { at: m_at, value: m }) =>
+                Counting::Most { n_at, n, m_at, m },
+            (
+                Counting::Most {
+                    n_at: _,
+                    n,
+                    m_at: _,
+                    m,
+                },
+                Token::Mark(Sign::CloseCurly),
+            ) => {
                 let turned = if m < n { Some(at) } else { None };
                 return self.repeated(atom, n, m, turned, place);
             }

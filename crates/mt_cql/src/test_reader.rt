@@ -48,7 +48,10 @@ pub struct Names<'a> {
 #[derive(Drop)]
 pub enum TestState<'a> {
     /// A test is wanted.
-    Wanted { level: Level, outer: Stack<Level> },
+    Wanted {
+        level: Level,
+        outer: Stack<Level>,
+    },
     /// The name of an attribute is read.
     Named {
         at: u32,
@@ -435,9 +438,7 @@ pub fn test_step<'a>(
             comparison,
             level,
             outer,
-        } => compares_step(
-            alloc, names, at, name, comparison, level, outer, token,
-        ),
+        } => compares_step(alloc, names, at, name, comparison, level, outer, token),
         TestState::Read {
             both,
             either,
@@ -448,7 +449,11 @@ pub fn test_step<'a>(
 
 /// The test that was read, where it may end here.
 #[tactic(auto, unfolding(crate::specs::Machine::whole_test))]
-pub fn whole_test<'a>(alloc: Global, names: &Names<'a>, state: TestState<'a>) -> Result<Option<TestPart>, NoMemory>
+pub fn whole_test<'a>(
+    alloc: Global,
+    names: &Names<'a>,
+    state: TestState<'a>,
+) -> Result<Option<TestPart>, NoMemory>
     ensures { IfOk result (λ test. maybe_test_part_seen test ≡ machine.whole_test (ways_of names.now) (test_state_seen state.entry)) }
 {
     match state {

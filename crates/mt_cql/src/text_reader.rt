@@ -117,7 +117,10 @@ pub enum Next<'a> {
         rest: &'a str,
     },
     /// No token begins at this place.
-    Bad { at: u32, why: Unlexed },
+    Bad {
+        at: u32,
+        why: Unlexed,
+    },
 }
 
 /// What begins at the front of a text that no blank begins.
