@@ -1,5 +1,5 @@
 -- What is computed of a text is what the parser promises of it.
-use Rattle.std.proofs.Common.{ℕ, ◌≡◌, Bool, true, false, List, length, Result, Ok, Err, refl, sym, ◌∙◌, ap, subst}
+use Rattle.std.proofs.Common.{ℕ, ◌≡◌, false, List, length, Result, Ok, Err, refl, ◌∙◌, subst}
 use Rattle.mt_text_spec.specs.Registries.{Registry}
 use Rattle.mt_query_spec.specs.Tokens.{tokens_of}
 use Rattle.mt_query_spec.specs.Verdicts.{is_too_long, Means}

@@ -1,15 +1,14 @@
 -- Where a token ends in its text, and the tokens behind it.
-use Rattle.std.proofs.Common.{ℕ, zero, suc, ◌+◌, ◌≡◌, ◌<◌, ◌≤◌, ◌⊎◌, inl, inr, Bool, true, false, List, [], ◌∷◌, None, Some, Option, Ok, Err, refl, sym, ◌∙◌, ap, subst, arith, length, drop, take, get_or, eqb}
+use Rattle.std.proofs.Common.{ℕ, zero, suc, ◌+◌, ◌≡◌, ◌<◌, ◌≤◌, Bool, true, false, List, [], ◌∷◌, None, Some, Option, Ok, Err, refl, sym, ◌∙◌, ap, subst, arith, length, drop, take, get_or}
 use Rattle.std.specs.Prelude.{cond, nat_lt, slice_index, ◌==◌, ◌&&◌}
 use Rattle.std.specs.List.{prefix_len}
 use Rattle.std.specs.Char.{is_ascii_digit}
 use Rattle.std.proofs.lemmas.Bool.{eqb-true}
 use Rattle.std.proofs.lemmas.List.Sums.{prefix_len_passes, prefix_len-le-length}
-use Rattle.std.proofs.lemmas.Bool.Decides.{nat_tests}
 use Rattle.mt_text_spec.specs.Words.{is_identifier_start, is_identifier_byte}
 use Rattle.mt_query_spec.specs.Tokens.{Token, Quoted, Number, Word, OpenCurly, Mark, Sign, Lexeme, NoEnd, NoToken, string_length, decimal_value, sign_of, long_sign, sign_at, string_at, number_at, word_at, lexeme, tokens_from}
 use Rattle.mt_query_spec.specs.Tokens as t
-use Rattle.mt_cql.proofs.Strings.{EndsAt, string_ends}
+use Rattle.mt_cql.proofs.Strings.{string_ends}
 use Rattle.mt_cql.proofs.Words.{LastOf, digit_range, word_ascii, start_ascii}
 
 -- ## The last byte of a token is ASCII

@@ -1,6 +1,5 @@
 -- What is said of a text, one token after another.
-use Rattle.std.proofs.Common.{ℕ, zero, suc, ◌+◌, ◌≡◌, ◌<◌, ◌≤◌, Bool, true, false, List, [], ◌∷◌, None, Some, Option, Result, Ok, Err, refl, sym, ◌∙◌, ap, subst, arith, length, drop, get_or, add-one}
-use Rattle.std.specs.Prelude.{cond}
+use Rattle.std.proofs.Common.{ℕ, suc, ◌+◌, ◌≡◌, ◌<◌, ◌≤◌, true, false, List, [], ◌∷◌, None, Some, Ok, Err, refl, sym, ◌∙◌, ap, arith, length, drop, get_or, add-one}
 use Rattle.std.proofs.Math.Seq.{drop-cons}
 use Rattle.std.proofs.lemmas.Bool.Decides.{nat_tests}
 use Rattle.mt_text_spec.specs.Registries.{Registry}

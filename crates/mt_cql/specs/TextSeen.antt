@@ -1,8 +1,6 @@
 -- What comes next in a text, as the program has it, and how deep a text nests.
-use Rattle.std.specs.Prelude.{ℕ, ◌≡◌, ◌+◌, ◌<◌, List, [], length, Option, None, Some, IsUtf8}
+use Rattle.std.specs.Prelude.{ℕ, ◌≡◌, ◌+◌, ◌<◌, [], length, None, Some, IsUtf8}
 use Rattle.mt_query_spec.specs.Tokens as t
-use Rattle.mt_query_spec.specs.Verdicts as v
-use Rattle.mt_cql.specs.declared.query.Cause.{Cause}
 use Rattle.mt_cql.specs.declared.text_reader.Next.{Next}
 use Rattle.mt_cql.specs.declared.text_reader.Next.TheVariants.{End, Token, Bad}
 use Rattle.mt_cql.specs.declared.text_reader.Nesting.{Nesting}

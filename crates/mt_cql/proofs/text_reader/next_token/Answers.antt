@@ -1,4 +1,4 @@
-use Rattle.std.proofs.Common.{rules, arith, ◌∙◌, sym, ap, ◌≡◌, ◌<◌, ◌+◌, true, length, drop, get_or}
+use Rattle.std.proofs.Common.{rules, arith, ◌∙◌, sym, ap, ◌≡◌, ◌<◌, ◌+◌, true, length, get_or}
 use Rattle.mt_query_spec.specs.Tokens.{is_blank, tokens_from}
 use Rattle.mt_cql.proofs.TextLaws.{blank_there, one_blank, less_is_left, behind_wider}
 use Rattle.mt_cql.proofs.text_reader.next_token.Goals as goal

@@ -1,7 +1,6 @@
 use Rattle.std.proofs.Common.{rules, arith, ◌<◌, length}
 use Rattle.std.proofs.lemmas.Str.{IsCharBoundary-after_ascii}
 use Rattle.mt_cql.specs.Seen.{token_seen}
-use Rattle.mt_cql.proofs.Words.{LastOf}
 use Rattle.mt_cql.proofs.Cutting.{lexeme_last}
 use Rattle.mt_cql.proofs.TextLaws.{first_token}
 use Rattle.mt_cql.proofs.text_reader.token_at.Goals as goal
