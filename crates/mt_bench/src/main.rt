@@ -1,7 +1,7 @@
 //! Measures the crates at the engine's heart and the script reader, each beside a plain loop over vectors or a map of the standard
 //! library.
 //!
-//! Without the word `all` it measures nothing, so that what it prints is the same at every run. With the word `text` it reads a text, and with `segment` it builds
+//! Without a word it measures nothing, so that what it prints is the same at every run. With the word `text` it reads a text, and with `segment` it builds
 //! its segment too, so that the memory which that takes can be measured from outside.
 #![tactic(auto)]
 
