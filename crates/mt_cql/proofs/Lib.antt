@@ -30,3 +30,4 @@ pub mod Opening
 pub mod Cutting
 pub mod TextLaws
 pub mod Answering
+pub mod Again

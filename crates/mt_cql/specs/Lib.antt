@@ -11,3 +11,4 @@ pub mod TestSeen
 pub mod StateSeen
 pub mod TextSeen
 pub mod Answered
+pub mod Again

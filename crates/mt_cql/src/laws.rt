@@ -6,6 +6,10 @@ ghost use Rattle.mt_text_spec.specs.Queries.{Query};
 ghost use Rattle.mt_query_spec.specs.Trees.{QueryTree, query_tokens};
 ghost use Rattle.mt_query_spec.specs.Verdicts.{Means, Refusal};
 ghost use Rattle.mt_query_spec.specs.Printed.{printed};
+ghost use Rattle.mt_cql.specs.declared.query.Query as read;
+ghost use Rattle.mt_cql.specs.declared.query.QueryError.{QueryError};
+ghost use Rattle.mt_cql.specs.Answered.{Answered};
+ghost use Rattle.mt_cql.specs.Again.{IsAgain};
 ghost use Rattle.mt_query_spec.specs.Valid.{ValidQuery, IsReadAs};
 
 /// Each list of tokens is written for one query at most.
@@ -28,6 +32,12 @@ pub fn one_meaning()
 pub fn printed_is_read()
     ensures { (registry : Registry) (default : ℕ) (query : Query) → ValidRegistry registry → ValidQuery registry query → length (printed registry query) ≤ 4096
         → Means registry default (printed registry query) (Ok query) }
+{}
+
+/// What `parse` answers to the printed text of a valid query is that query, or want of memory, where that text has at most 4,096 bytes.
+pub fn print_then_parse()
+    ensures { (registry : Registry) (default : ℕ) (query : Query) (again : Result read.Query QueryError) → ValidRegistry registry → ValidQuery registry query
+        → length (printed registry query) ≤ 4096 → Answered registry default (printed registry query) again → IsAgain query again }
 {}
 
 /// Each query that a text means is valid.

@@ -29,7 +29,8 @@ mod text_reader;
 mod token;
 
 pub use laws::{
-    one_meaning, one_reading, printed_is_read, read_is_valid, some_meaning, valid_where_read,
+    one_meaning, one_reading, print_then_parse, printed_is_read, read_is_valid, some_meaning,
+    valid_where_read,
 };
 pub use printer::print;
 pub use query::{Cause, Cond, Expr, Filter, FilterKind, Filters, Query, QueryError, Test};
