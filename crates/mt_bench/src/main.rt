@@ -7,6 +7,7 @@
 
 mod lexicons;
 mod patterns;
+mod queries;
 mod scripts;
 mod segments;
 mod work;
@@ -44,6 +45,10 @@ fn main(rt: HostRuntime) -> io::Result<()> {
     }
     match patterns::Input::new(rt.alloc()) {
         Ok(input) => measure_patterns(&rt, &input)?,
+        Err(NoMemory) => println!(rt; "memory was wanted")?,
+    }
+    match queries::Input::new(rt.alloc()) {
+        Ok(input) => measure_queries(&rt, &input)?,
         Err(NoMemory) => println!(rt; "memory was wanted")?,
     }
     measure_scripts(&rt)
@@ -104,6 +109,35 @@ fn measure_lexicons(rt: &HostRuntime, input: &lexicons::Input) -> io::Result<()>
         "merge / clones in order",
         || lexicons::merge(alloc, input),
         || lexicons::join(alloc, input),
+    )
+}
+
+/// Measures a query with as many nodes as it may have, and long texts beside texts half as long.
+fn measure_queries(rt: &HostRuntime, input: &queries::Input) -> io::Result<()> {
+    let alloc = rt.alloc();
+    compare(
+        rt,
+        "a query of 254 nodes / a registry",
+        || queries::nodes(alloc, input),
+        || queries::registry(alloc),
+    )?;
+    compare(
+        rt,
+        "a sequence of 4,089 bytes / of half of it",
+        || queries::sequence(alloc, input, 0),
+        || queries::sequence(alloc, input, 1),
+    )?;
+    compare(
+        rt,
+        "a choice of 4,091 bytes / of half of it",
+        || queries::choice(alloc, input, 0),
+        || queries::choice(alloc, input, 1),
+    )?;
+    compare(
+        rt,
+        "a test behind 4,090 signs ! / behind half of them",
+        || queries::negated(alloc, input, 0),
+        || queries::negated(alloc, input, 1),
     )
 }
 
