@@ -22,8 +22,6 @@ mod stack;
 mod state;
 mod tag_reader;
 mod test_reader;
-#[cfg(test)]
-mod tests;
 mod text;
 mod text_reader;
 mod token;
