@@ -1,5 +1,5 @@
 -- The tokens that values make, row by row: how many there are, a token by its place, and one more at the end.
-use Rattle.std.proofs.Common.{◌≡◌, ℕ, zero, suc, ◌+◌, ◌*◌, ◌<◌, ◌≤◌, List, [], ◌∷◌, ◌++◌, length, take, drop, get_or, true, false, refl, sym, ◌∙◌, ap, ap₂, arith, length-append}
+use Rattle.std.proofs.Common.{◌≡◌, ℕ, zero, suc, ◌+◌, ◌*◌, ◌<◌, ◌≤◌, List, [], ◌∷◌, ◌++◌, length, take, drop, get_or, true, false, refl, sym, ◌∙◌, ap, ap₂, arith}
 use Rattle.std.specs.List.{count_by}
 use Rattle.std.specs.Str.{bytes_eq}
 use Rattle.std.proofs.Math.Nat.{suc-mul, mul_comm}
@@ -35,10 +35,6 @@ pub rows-push : (columns count : ℕ) (values row : List (List ℕ)) → length 
 rows-push columns count values row e r =
     let n : count + 1 ≡ suc count = omega arith in
     ap (λ k. rows columns k (values ++ row)) n ∙ one_more_row columns count values row e r
-
-pub rows_long : (columns count : ℕ) (values row : List (List ℕ)) → length values ≡ count * columns → length row ≡ columns →
-    length (values ++ row) ≡ (count + 1) * columns
-rows_long columns count values row e r = omega (arith, e, r, length-append values row, suc-mul count columns)
 
 pub value_at : (columns count : ℕ) (values : List (List ℕ)) (place column : ℕ) (token : Token) → place < count → column < columns →
     value_of (get_or (rows columns count values) place token) column ≡ get_or values (place * columns + column) []

@@ -1,7 +1,7 @@
 //! Values, lists, registries, texts, spans, lines and counters of steps: the small types that every crate of the engine uses.
 //!
 //! Contracts see a `Value` as its bytes, a `List` as the list of its items, `Strings` as the list of their bytes, `Tokens` as the number of their values and the list of tokens,
-//! a `Registry`, a `Text`, a `Span` and a `Row` as the records of `mt_text_spec`, `Lines` as the list of lines to come, and `Steps` as a number.
+//! a `Registry`, a `Text`, a `Span` and a `Row` as the records of `mt_text_spec`, `Lines` as the list of lines to come, and `Steps` as a number. What bytes are an identifier is told here too (`words`).
 #![tactic(auto)]
 
 mod lines;
@@ -13,6 +13,7 @@ mod strings;
 mod text;
 mod tokens;
 mod value;
+mod words;
 
 pub use lines::Lines;
 pub use list::List;
@@ -24,6 +25,7 @@ pub use strings::Strings;
 pub use text::{StructSpan, Text};
 pub use tokens::Tokens;
 pub use value::Value;
+pub use words::{begins_identifier, identifier_len, is_identifier, is_in_identifier};
 
 /// Want of memory: the one answer that any call which takes memory may give at any time.
 #[derive(Clone, Copy, Debug, PartialEq, Eq, Drop)]

@@ -3,28 +3,17 @@
 ghost use Rattle.std.specs.Prelude.{◌≡◌, ◌+◌, ◌<◌, ◌≤◌, ◌∷◌, ℕ, List, length, drop, take, slice_index, Option, None, Some, IfOk, IfSome, IfNone, MatchOption, Result, Ok, Err, true, false};
 ghost use Rattle.std.specs.List.{AllPass, prefix_len};
 ghost use Rattle.std.specs.Char.{is_ascii_digit};
-ghost use Rattle.mt_text_spec.specs.Words.{is_identifier_start, is_identifier_byte};
+ghost use Rattle.mt_text_spec.specs.Words.{is_identifier_start};
 ghost use Rattle.mt_query_spec.specs.Tokens as spec;
 ghost use Rattle.mt_cql.specs.Seen.{LexemeSeen, long_sign_seen, maybe_sign_seen};
 
 use super::token::{Sign, Token, Unlexed};
+use mt_base::{begins_identifier, identifier_len};
 
 pub fn is_blank(b: u8) -> bool
     ensures { result ≡ spec.is_blank b }
 {
     b == b' ' || b == b'\t'
-}
-
-fn begins_word(b: u8) -> bool
-    ensures { result ≡ is_identifier_start b }
-{
-    b.is_ascii_alphabetic() || b == b'_'
-}
-
-fn is_in_word(b: u8) -> bool
-    ensures { result ≡ is_identifier_byte b }
-{
-    b.is_ascii_alphanumeric() || b == b'_'
 }
 
 /// How many bytes stand before the quote that ends a string.
@@ -49,13 +38,6 @@ fn digits_length(bytes: &[u8]) -> usize
     ensures { result ≡ prefix_len is_ascii_digit bytes.now }
 {
     bytes.iter().take_while(|b| b.is_ascii_digit()).count()
-}
-
-/// How many bytes of a word stand in front.
-fn word_length(bytes: &[u8]) -> usize
-    ensures { result ≡ prefix_len is_identifier_byte bytes.now }
-{
-    bytes.iter().take_while(|b| is_in_word(**b)).count()
 }
 
 /// The byte at a place, or 0 past the end.
@@ -193,7 +175,7 @@ fn word_at(at: u32, text: &str) -> Result<(Token<'_>, usize), Unlexed>
     requires start { is_identifier_start (slice_index text.now 0) ≡ true }
     ensures { LexemeSeen result (spec.word_at at (slice_index text.now 0) (drop 1 text.now)) }
 {
-    let n = word_length(behind(text.as_bytes()));
+    let n = identifier_len(behind(text.as_bytes()));
     if n < 64 {
         Ok((
             Token::Word {
@@ -219,7 +201,7 @@ pub fn lexeme(at: u32, text: &str) -> Result<(Token<'_>, usize), Unlexed>
         string_at(text_behind(text))
     } else if b.is_ascii_digit() {
         number_at(at, bytes)
-    } else if begins_word(b) {
+    } else if begins_identifier(b) {
         word_at(at, text)
     } else {
         sign_at(at, b, behind(bytes))

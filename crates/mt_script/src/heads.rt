@@ -6,9 +6,10 @@ ghost use Rattle.mt_script.specs.Reading.{Reads, registry_at, text_at, add_at, g
 use super::Command;
 use super::header::Header;
 use super::words::{
-    Unread, cut, is_identifier, read_decimal, read_identifier, read_name, read_number, read_rest,
-    read_saved_name, read_small, split,
+    Unread, cut, read_decimal, read_identifier, read_name, read_number, read_rest, read_saved_name,
+    read_small, split,
 };
+use mt_base::is_identifier;
 use std::alloc::Global;
 
 /// `registry FILE`, behind its first word, as all that follow.
@@ -197,7 +198,7 @@ pub fn read_partner(alloc: Global, words: &str) -> Result<Header, Unread>
     ensures { Reads header_of result (partner_at words.now) }
 {
     let (name, kind) = cut(words)?;
-    if !is_identifier(name) {
+    if !is_identifier(name.as_bytes()) {
         return Err(Unread::NoCommand);
     }
     let name = read_saved_name(alloc, name)?;

@@ -1,12 +1,12 @@
 //! The words of a command line.
 
 ghost use Rattle.std.specs.Prelude.{◌≡◌, ◌≤◌, ◌↔◌, IsTrue, IfOk, None, Some, MatchOption};
-ghost use Rattle.mt_text_spec.specs.Words.{IsName, IsIdentifier, is_name_byte, is_identifier_byte, is_identifier_start};
+ghost use Rattle.mt_text_spec.specs.Words.{IsName, is_name_byte};
 ghost use Rattle.mt_script.specs.Headers.{IsDecimal};
 ghost use Rattle.mt_script.specs.Reading.{Reads};
 ghost use Rattle.mt_script.specs.Reading as reading;
 
-use mt_base::{NoMemory, Value};
+use mt_base::{NoMemory, Value, is_identifier};
 use std::alloc::Global;
 
 /// Why a line was not read as a command.
@@ -62,29 +62,6 @@ fn is_in_name(b: u8) -> bool
     b.is_ascii_alphanumeric() || b == b'_' || b == b'-' || b == b'.'
 }
 
-/// Whether a word is an identifier.
-pub fn is_identifier(word: &str) -> bool
-    ensures { IsTrue result ↔ IsIdentifier word.now }
-{
-    let bytes = word.as_bytes();
-    !bytes.is_empty()
-        && bytes.len() <= 64
-        && begins_identifier(bytes[0])
-        && bytes.iter().all(|b| is_in_identifier(*b))
-}
-
-fn begins_identifier(b: u8) -> bool
-    ensures { result ≡ is_identifier_start b }
-{
-    b.is_ascii_alphabetic() || b == b'_'
-}
-
-fn is_in_identifier(b: u8) -> bool
-    ensures { result ≡ is_identifier_byte b }
-{
-    b.is_ascii_alphanumeric() || b == b'_'
-}
-
 /// Whether a word is digits with no leading zero.
 fn is_decimal(word: &str) -> bool
     ensures { IsTrue result ↔ IsDecimal word.now }
@@ -124,7 +101,7 @@ pub fn read_saved_name(alloc: Global, word: &str) -> Result<Value, Unread>
 pub fn read_identifier(alloc: Global, word: &str) -> Result<Value, Unread>
     ensures { Reads (λ name. name) result (reading.identifier_at word.now) }
 {
-    if is_identifier(word) {
+    if is_identifier(word.as_bytes()) {
         Ok(Value::new(alloc, word)?)
     } else {
         Err(Unread::NoCommand)

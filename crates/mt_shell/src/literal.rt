@@ -3,11 +3,11 @@
 ghost use Rattle.std.specs.Prelude.{◌≡◌, ◌↔◌, ◌<◌, ◌∷◌, ◌++◌, ℕ, List, length, IsTrue, MatchOption};
 ghost use Rattle.std.specs.List.{AllPass};
 ghost use Rattle.std.specs.Char.{is_ascii_alphanumeric};
-ghost use Rattle.mt_text_spec.specs.Words.{IsIdentifier, is_identifier_byte, is_identifier_start};
 ghost use Rattle.mt_session_spec.specs.Counting.{IsLiteral};
 ghost use Rattle.mt_shell.specs.Literals.{HasNoSign, IsSplit};
 
 use memchr::memchr;
+use mt_base::is_identifier;
 use std::str;
 
 /// The name and the value V of `[NAME=="V"]`, where V is one or more ASCII letters and digits.
@@ -34,28 +34,6 @@ fn split_at_sign(bytes: &[u8]) -> Option<(&[u8], &[u8])>
     let at = memchr(b'=', bytes)?;
     let rest = bytes[at..].strip_prefix(b"==\"")?;
     Some((&bytes[..at], rest))
-}
-
-/// Whether the name may be that of an attribute.
-fn is_identifier(name: &[u8]) -> bool
-    ensures { IsTrue result ↔ IsIdentifier name.now }
-{
-    !name.is_empty()
-        && name.len() <= 64
-        && begins_identifier(name[0])
-        && name.iter().all(|b| is_in_identifier(*b))
-}
-
-fn begins_identifier(b: u8) -> bool
-    ensures { result ≡ is_identifier_start b }
-{
-    b.is_ascii_alphabetic() || b == b'_'
-}
-
-fn is_in_identifier(b: u8) -> bool
-    ensures { result ≡ is_identifier_byte b }
-{
-    b.is_ascii_alphanumeric() || b == b'_'
 }
 
 fn is_word(value: &[u8]) -> bool

@@ -8,8 +8,8 @@ ghost use Rattle.mt_vertical.specs.SeenBlock.{keyword_seen};
 ghost use Rattle.mt_vertical.specs.Misstated.{cause_seen, IsFirstCause};
 
 use super::block::{Keyword, is_declaring, is_same};
-use super::lines::{Statement, is_identifier};
-use mt_base::{List, Value};
+use super::lines::Statement;
+use mt_base::{List, Value, is_identifier};
 
 /// Why a line is refused.
 #[derive(Clone, Copy, Debug, PartialEq, Eq, Drop)]

@@ -2,9 +2,10 @@
 
 ghost use Rattle.std.specs.Prelude.{◌≡◌, ◌≤◌, length, reverse};
 ghost use Rattle.std.specs.List.{prefix_len, suffix_len};
-ghost use Rattle.mt_text_spec.specs.Words.{is_identifier_byte};
 ghost use Rattle.mt_file_spec.specs.RegistryFile as spec;
 ghost use Rattle.mt_vertical.specs.SeenForm.{form_seen};
+
+use mt_base::identifier_len;
 
 /// What a line is by itself. Keys and values are parts of the line.
 #[derive(Clone, Copy, Debug, PartialEq, Eq, Drop)]
@@ -47,7 +48,7 @@ fn bare_form(bare: &[u8]) -> Form
 fn keyed(bare: &[u8]) -> Form
     ensures { form_seen result ≡ spec.keyed bare.now }
 {
-    let len = key_len(bare);
+    let len = identifier_len(bare);
     if 0 < len && len < bare.len() && is_blank(bare[len]) {
         let (key, rest) = bare.split_at(len);
         entry(key, rest)
@@ -133,23 +134,8 @@ fn blanks_behind(bytes: &[u8]) -> usize
     bytes.iter().rev().take_while(|b| is_blank(**b)).count()
 }
 
-/// How many letters, digits and `_` the bytes begin with.
-fn key_len(bytes: &[u8]) -> usize
-    ensures value { result ≡ prefix_len is_identifier_byte bytes.now }
-    ensures few { result ≤ length bytes.now }
-{
-    bytes.iter().take_while(|b| is_in_identifier(**b)).count()
-}
-
 fn is_blank(b: u8) -> bool
     ensures { result ≡ spec.is_blank b }
 {
     b == b' ' || b == b'\t'
-}
-
-/// A letter, a digit or `_`.
-pub fn is_in_identifier(b: u8) -> bool
-    ensures { result ≡ is_identifier_byte b }
-{
-    b.is_ascii_alphanumeric() || b == b'_'
 }

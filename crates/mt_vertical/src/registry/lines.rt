@@ -2,7 +2,6 @@
 
 ghost use Rattle.std.specs.Prelude.{◌≡◌, ◌+◌, ◌<◌, ◌^◌, [], ◌∷◌, ◌++◌, ◌↔◌, not, List, length, IsTrue, IfOk, OnOk, IsUtf8, option_map, None, Some, true};
 ghost use Rattle.std.specs.Str.Lines.{lines};
-ghost use Rattle.mt_text_spec.specs.Words.{IsIdentifier, is_identifier_byte, is_identifier_start};
 ghost use Rattle.mt_file_spec.specs.RegistryFile as spec;
 ghost use Rattle.mt_file_spec.specs.RegistryFile.{IsRefused, statements_of, lines_from, behind_all};
 ghost use Rattle.mt_vertical.specs.SeenForm.{form_seen};
@@ -10,8 +9,8 @@ ghost use Rattle.mt_vertical.specs.SeenBlock.{keyword_seen, block_seen, effect_s
 ghost use Rattle.mt_vertical.specs.ReadLines.{form_effect, Refuses, IsFirstRefused, IsUnnamed, IsBadValue, IsBadPlace, with_option};
 
 use super::block::{Block, Blocks, Effect, Keyword, effect_in, is_declaring, keyword_of};
-use super::form::{Form, form_of, is_in_identifier};
-use mt_base::{Lines, NoMemory};
+use super::form::{Form, form_of};
+use mt_base::{Lines, NoMemory, is_identifier};
 use std::alloc::Global;
 use std::marker::Model;
 use std::str;
@@ -265,22 +264,6 @@ fn is_unnamed(value: &[u8], effect: Option<Effect>) -> bool
         Some(effect) => is_declaring(effect.keyword) && !is_identifier(value),
         None => false,
     }
-}
-
-/// Whether the bytes are an identifier.
-pub fn is_identifier(bytes: &[u8]) -> bool
-    ensures { IsTrue result ↔ IsIdentifier bytes.now }
-{
-    !bytes.is_empty()
-        && bytes.len() <= 64
-        && begins_identifier(bytes[0])
-        && bytes.iter().all(|b| is_in_identifier(*b))
-}
-
-fn begins_identifier(b: u8) -> bool
-    ensures { result ≡ is_identifier_start b }
-{
-    b.is_ascii_alphabetic() || b == b'_'
 }
 
 fn is_utf8(bytes: &[u8]) -> bool

@@ -3,11 +3,12 @@
 use super::{RegistryError, read_registry};
 use mt_base::{List, NoMemory, Registry, Value};
 use std::alloc::{AllocError, Global};
+use std::process::Abort;
 use std::test::Fail;
 
 #[test]
-fn refuses_the_first_bad_line(rt: HostRuntime) -> Result<(), Fail> {
-    let cases: [(&[u8], RegistryError); 26] = [
+fn refuses_lines_of_bad_form(rt: HostRuntime) -> Result<(), Fail> {
+    let cases: [(&[u8], RegistryError); 12] = [
         (b"", RegistryError::NoAttribute),
         (b"# none\nSTRUCTURE s\n", RegistryError::NoAttribute),
         (b"}", RegistryError::Syntax(1)),
@@ -28,6 +29,18 @@ fn refuses_the_first_bad_line(rt: HostRuntime) -> Result<(), Fail> {
             RegistryError::Syntax(3),
         ),
         (
+            b"ATTRIBUTE m {\nDYNAMIC fold\nFROMATTR v\n}\n}\nATTRIBUTE v\n",
+            RegistryError::Syntax(5),
+        ),
+        (b"ATTRIBUTE w\n}\nATTRIBUTE w\n", RegistryError::Syntax(2)),
+    ];
+    assert_refused(&rt, rt.alloc(), &cases)
+}
+
+#[test]
+fn refuses_what_is_stated_twice_or_too_often(rt: HostRuntime) -> Result<(), Fail> {
+    let cases: [(&[u8], RegistryError); 5] = [
+        (
             b"ATTRIBUTE w\n# again\nATTRIBUTE w\n",
             RegistryError::Twice(3),
         ),
@@ -47,6 +60,13 @@ fn refuses_the_first_bad_line(rt: HostRuntime) -> Result<(), Fail> {
             b"ATTRIBUTE a\nATTRIBUTE b\nATTRIBUTE c\nATTRIBUTE d\nATTRIBUTE e\nATTRIBUTE f\nATTRIBUTE g\nATTRIBUTE h\nATTRIBUTE i\nATTRIBUTE j\nATTRIBUTE k\nATTRIBUTE l\nATTRIBUTE m\nATTRIBUTE n\nATTRIBUTE o\nATTRIBUTE p\nATTRIBUTE q\n",
             RegistryError::TooMany(17),
         ),
+    ];
+    assert_refused(&rt, rt.alloc(), &cases)
+}
+
+#[test]
+fn refuses_unknown_mappers_and_bases(rt: HostRuntime) -> Result<(), Fail> {
+    let cases: [(&[u8], RegistryError); 9] = [
         (
             b"ATTRIBUTE w\nATTRIBUTE m {\nDYNAMIC nope\nFROMATTR w\n}\n",
             RegistryError::UnknownMapper(3),
@@ -69,10 +89,6 @@ fn refuses_the_first_bad_line(rt: HostRuntime) -> Result<(), Fail> {
             RegistryError::UnknownBase(3),
         ),
         (
-            b"ATTRIBUTE m {\nDYNAMIC fold\nFROMATTR v\n}\n}\nATTRIBUTE v\n",
-            RegistryError::Syntax(5),
-        ),
-        (
             b"ATTRIBUTE m {\nDYNAMIC fold\nFROMATTR v\n}\nX \xff {\nATTRIBUTE v\n}\n",
             RegistryError::UnknownBase(3),
         ),
@@ -84,12 +100,20 @@ fn refuses_the_first_bad_line(rt: HostRuntime) -> Result<(), Fail> {
             b"ATTRIBUTE w\nATTRIBUTE m {\nFROMATTR v\nDYNAMIC \xff\n}\n",
             RegistryError::UnknownBase(3),
         ),
-        (b"ATTRIBUTE w\n}\nATTRIBUTE w\n", RegistryError::Syntax(2)),
     ];
-    let mappers = mappers_at_hand(rt.alloc())?;
+    assert_refused(&rt, rt.alloc(), &cases)
+}
+
+/// Each of the files is refused, for the cause beside it.
+fn assert_refused(
+    rt: &impl Abort,
+    alloc: Global,
+    cases: &[(&[u8], RegistryError)],
+) -> Result<(), Fail> {
+    let mappers = mappers_at_hand(alloc)?;
     for (file, want) in cases {
-        let read = read_registry(rt.alloc(), file, &mappers);
-        assert_eq!(rt; error_in(&read), Some(want), "at {file:?}");
+        let read = read_registry(alloc, file, &mappers);
+        assert_eq!(rt; error_in(&read), Some(*want), "at {file:?}");
     }
     Ok(())
 }

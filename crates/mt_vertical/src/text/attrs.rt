@@ -2,12 +2,12 @@
 
 ghost use Rattle.std.specs.Prelude.{◌≡◌, ℕ, ◌≤◌, List, length, option_map, IsUtf8};
 ghost use Rattle.std.specs.List.{prefix_len, list_all};
-ghost use Rattle.mt_text_spec.specs.Words.{is_identifier_start, is_identifier_byte};
 ghost use Rattle.mt_file_spec.specs.Tags.{TagAttr as SpelledAttr, is_space, is_quote, differs, tag_value};
 ghost use Rattle.mt_vertical.specs.TagReading as reading;
 ghost use Rattle.mt_vertical.specs.TagReading.{past, ReadsAttrs};
 
 use memchr::memchr;
+use mt_base::{begins_identifier, identifier_len};
 
 /// An attribute in a tag.
 #[derive(Clone, Copy, Debug, Drop)]
@@ -48,27 +48,6 @@ pub fn behind(byte: u8, bytes: &[u8]) -> Option<&[u8]>
 {
     let (first, rest) = bytes.split_first()?;
     if *first == byte { Some(rest) } else { None }
-}
-
-/// Whether an identifier, or a tag's name, may begin with this byte.
-pub fn begins_identifier(b: u8) -> bool
-    ensures { result ≡ is_identifier_start b }
-{
-    b.is_ascii_alphabetic() || b == b'_'
-}
-
-fn is_in_identifier(b: u8) -> bool
-    ensures { result ≡ is_identifier_byte b }
-{
-    b.is_ascii_alphanumeric() || b == b'_'
-}
-
-/// How many bytes in front may stand in an identifier.
-fn identifier_len(bytes: &[u8]) -> usize
-    ensures count { result ≡ prefix_len is_identifier_byte bytes.now }
-    ensures within { result ≤ length bytes.now }
-{
-    bytes.iter().take_while(|b| is_in_identifier(**b)).count()
 }
 
 /// The identifier in front, and what follows it.

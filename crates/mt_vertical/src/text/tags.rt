@@ -6,8 +6,9 @@ ghost use Rattle.mt_file_spec.specs.Tags.{IsTag, Spells, Tag as SpelledTag, TagA
 ghost use Rattle.mt_vertical.specs.TagForms.{IsFound, BehindTag, IsBegin, IsEnd, ReadsBegin, ReadsEnd};
 ghost use Rattle.mt_vertical.specs.TagReading as reading;
 
-use super::attrs::{are_spaces, begins_identifier, behind, past_attrs, past_spaces};
+use super::attrs::{are_spaces, behind, past_attrs, past_spaces};
 use memchr::memchr;
+use mt_base::begins_identifier;
 
 /// What a tag does.
 #[derive(Clone, Copy, Debug, PartialEq, Eq, Drop)]
