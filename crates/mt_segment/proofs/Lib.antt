@@ -1,6 +1,7 @@
 pub mod Assembled
 pub mod Determined
 pub mod Halfway
+pub mod Have
 pub mod Known
 pub mod Mappings
 pub mod Numbered

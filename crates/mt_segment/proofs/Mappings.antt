@@ -176,7 +176,7 @@ renumbers_map f numbers old new h = record {
   same = λ k l. slice_get-map f new (get_or numbers k 0) ∙ ap (option_map f) (h.same k (omega (arith, length-map old f))) ∙ sym (slice_get-map f old k);
 }
 
-contains_map : (f : List ℕ → List ℕ) (xs : List (List ℕ)) (x : List ℕ) → Contains xs x → Contains (map f xs) (f x)
+pub contains_map : (f : List ℕ → List ℕ) (xs : List (List ℕ)) (x : List ℕ) → Contains xs x → Contains (map f xs) (f x)
 contains_map f xs x (k, l, e) = (k, omega (arith, length-map xs f), get_or-map f xs k x (f x) l ∙ ap f e)
 
 -- the lexicon of the images of a lexicon is that of the images of the values

@@ -4,6 +4,10 @@ use Rattle.mt_text_spec.specs.Registries.{Registry, ValidRegistry}
 use Rattle.mt_text_spec.specs.Texts.{Text, ValidCorpus}
 use Rattle.mt_segment_spec.specs.Tables.{Tables, AreTablesOf, attr_values, number_at, tables_at, token_count}
 
+-- texts have tables, whatever the images are
+abbrev pub HaveTables : Type 0
+HaveTables = (images : List ℕ → List ℕ → List ℕ) (registry : Registry) (corpus : List Text) → ValidRegistry registry → (tables : Tables) × AreTablesOf images registry corpus tables
+
 -- texts have one list of tables at most, under a registry and images
 abbrev pub HaveOneTables : Type 0
 HaveOneTables = (images : List ℕ → List ℕ → List ℕ) (registry : Registry) (corpus : List Text) (a b : Tables) → ValidCorpus registry corpus → AreTablesOf images registry corpus a → AreTablesOf images registry corpus b → a ≡ b

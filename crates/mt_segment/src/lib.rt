@@ -16,7 +16,7 @@ mod segment;
 mod structs;
 mod table;
 
-pub use laws::{have_one_tables, numbers_stand_for_values};
+pub use laws::{have_one_tables, have_tables, numbers_stand_for_values};
 pub use mapped::has_mappers;
 pub use segment::Segment;
 pub use structs::SegStruct;
