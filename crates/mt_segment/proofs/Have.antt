@@ -1,5 +1,5 @@
 -- Texts have tables.
-use Rattle.std.proofs.Common.{◌≡◌, ℕ, zero, suc, ◌+◌, ◌<◌, ◌≤◌, Bool, true, false, cond, List, [], ◌∷◌, length, map, get_or, slice_get, Option, None, Some, refl, sym, ◌∙◌, ap, subst, arith}
+use Rattle.std.proofs.Common.{◌≡◌, ℕ, zero, suc, ◌+◌, ◌<◌, Bool, true, false, cond, List, [], ◌∷◌, length, map, get_or, slice_get, Option, None, Some, refl, sym, ◌∙◌, ap, subst, arith}
 use Rattle.std.specs.List.{All, Contains, filter, range_with_len}
 use Rattle.std.specs.List.Sorted.{IsStrictlyIncreasing}
 use Rattle.std.specs.Str.{bytes_eq}
@@ -13,7 +13,7 @@ use Rattle.mt_text_spec.specs.Registries.{Registry, Attr, ValidRegistry, ValidAt
 use Rattle.mt_text_spec.specs.Texts.{Text}
 use Rattle.mt_store_spec.specs.Lexicons.{IsLexiconOf, Renumbers}
 use Rattle.mt_lexicon.proofs.Lexicons.{a_lexicon}
-use Rattle.mt_segment_spec.specs.Tables.{AttrTables, Instance, Tables, ArePlacesOf, ArePostingsOf, AreAttrTables, AreTablesOf, attr_at, attr_values, base_values, heads_of, instances_from, made_of, tables_at}
+use Rattle.mt_segment_spec.specs.Tables.{AttrTables, Tables, ArePlacesOf, ArePostingsOf, AreAttrTables, AreTablesOf, attr_at, attr_values, base_values, heads_of, instances_from, made_of, tables_at}
 use Rattle.mt_segment.specs.Laws.{HaveTables}
 use Rattle.mt_segment.proofs.Mappings.{contains_map}
 
