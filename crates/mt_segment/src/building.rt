@@ -2,14 +2,13 @@
 
 ghost use Rattle.std.specs.Prelude.{◌≡◌, ℕ, ◌<◌, ◌≤◌, None, Some, length, map, sum, IfOk, OnOk, OnErr};
 ghost use Rattle.std.specs.List.{All, Contains};
-ghost use Rattle.mt_text_spec.specs.Registries.{ValidRegistry, base_count};
+ghost use Rattle.mt_text_spec.specs.Registries.{ValidRegistry};
 ghost use Rattle.mt_text_spec.specs.Texts.{ValidCorpus, text_limit, texts_limit, tokens_limit, total_tokens};
 ghost use Rattle.mt_segment_spec.specs.Tables as spec;
 ghost use Rattle.mt_segment_spec.specs.Tables.{AreAttrTables, AreTablesOf, column_values, heads_of, tables_at};
 ghost use Rattle.mt_segment.specs.Building.{AreAllMapped, AreBaseTables, AreInstances, AreUsable, HasBase, IsMappedAt};
 ghost use Rattle.mt_segment.specs.Ends.{AreEndsOf};
 ghost use Rattle.mt_segment.specs.Mappers.{AreCounted, AreCountedAtMost, AreThere, calls_due, calls_of, image_by, named};
-ghost use Rattle.mt_segment.specs.Parts.{HaveColumn};
 
 use super::columns::base_tables;
 use super::mapped::map_by_name;
@@ -82,9 +81,7 @@ fn all_base_tables(
     attrs: &[Attr],
     tokens: usize,
 ) -> Result<Vec<AttrTables>, NoMemory>
-    requires fits { total_tokens texts.now ≤ tokens_limit }
-    requires few { length attrs.now ≤ 16 }
-    requires values { All (λ text. All (λ token. length token.values ≡ base_count attrs.now) text.tokens) texts.now }
+    requires { total_tokens texts.now ≤ tokens_limit }
     ensures { IfOk result (λ tables. AreBaseTables attrs.now texts.now tables.items (length attrs.now)) }
 {
     let mut tables = Vec::with_capacity(alloc, attrs.len())?;
@@ -104,8 +101,7 @@ fn first_tables(
     column: usize,
     tokens: usize,
 ) -> Result<AttrTables, NoMemory>
-    requires fits { total_tokens texts.now ≤ tokens_limit }
-    requires column { attr.now.base ≡ None → HaveColumn column texts.now }
+    requires { total_tokens texts.now ≤ tokens_limit }
     ensures { IfOk result (λ tables. attr.now.base ≡ None → AreAttrTables None (column_values column texts.now) (column_values column texts.now) tables) }
 {
     match attr.base() {

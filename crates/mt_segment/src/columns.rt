@@ -1,10 +1,8 @@
 //! The tables of base attributes.
 
 ghost use Rattle.std.specs.Prelude.{◌≡◌, ◌+◌, ◌-◌, ◌^◌, ◌<◌, ◌≤◌, ◌++◌, length, map, None, IfOk, OnOk};
-ghost use Rattle.std.specs.List.{All};
 ghost use Rattle.mt_text_spec.specs.Texts.{total_tokens, tokens_limit, value_of};
 ghost use Rattle.mt_segment_spec.specs.Tables.{AreAttrTables, column_values};
-ghost use Rattle.mt_segment.specs.Parts.{HaveColumn};
 
 use super::inverting::postings_of;
 use super::numbering::Numbering;
@@ -19,8 +17,7 @@ pub(crate) fn base_tables(
     column: usize,
     tokens: usize,
 ) -> Result<AttrTables, NoMemory>
-    requires fits { total_tokens texts.now ≤ tokens_limit }
-    requires column { HaveColumn column texts.now }
+    requires { total_tokens texts.now ≤ tokens_limit }
     ensures { IfOk result (λ tables. AreAttrTables None (column_values column texts.now) (column_values column texts.now) tables) }
 {
     let mut numbering = Numbering::new(alloc, tokens)?;
@@ -39,8 +36,7 @@ pub(crate) fn base_tables(
 
 /// Adds the values of a text's tokens.
 fn add_text(numbering: &mut Numbering, text: &Text, column: usize) -> Result<(), NoMemory>
-    requires fits { length numbering.old + length text.now.tokens < 2 ^ 32 - 1 }
-    requires column { All (λ token. column < length token.values) text.now.tokens }
+    requires { length numbering.old + length text.now.tokens < 2 ^ 32 - 1 }
     ensures { OnOk result (numbering.new ≡ numbering.old ++ map (λ token. value_of token column) text.now.tokens) }
 {
     let tokens = text.tokens();

@@ -5,15 +5,15 @@ use Rattle.mt_segment.specs.Parts.{AreInverted}
 use Rattle.mt_segment.proofs.Valued.{column_fits, column_all, numbers_few, numbers_low, base_made}
 use Rattle.mt_segment.proofs.columns.base_tables.Goals as goal
 
-pub add_text-requires-clause-fits : goal.add_text-requires-clause-fits
-add_text-requires-clause-fits c =
+pub add_text-requires : goal.add_text-requires
+add_text-requires c =
     let e : length c.loop-text.numbering ≡ length (column_values c.args.column (take c.loop-text.text-index c.args.texts.now)) = ap length c.loop-text.invariant in
-    omega (arith, e, column_fits c.args.column c.args.texts.now c.loop-text.text-index c.text-item.result c.loop-text-test.true c.text-item.is, c.requires.fits)
+    omega (arith, e, column_fits c.args.column c.args.texts.now c.loop-text.text-index c.text-item.result c.loop-text-test.true c.text-item.is, c.requires)
 
 pub postings_of-requires-clause-short : goal.postings_of-requires-clause-short
 postings_of-requires-clause-short c =
     let all : c.loop-text.numbering ≡ column_values c.args.column c.args.texts.now = column_all c.args.column c.args.texts.now c.loop-text.text-index c.loop-text.numbering c.loop-text.invariant c.loop-text-test.false in
-    omega (arith, numbers_few c.in_ok-lexicon.numbers c.as_slice.result.now c.loop-text.numbering c.in_ok-lexicon.lexicon c.args.column c.args.texts.now c.in_ok-lexicon.ensures.numbers all c.as_slice.ensures, c.requires.fits)
+    omega (arith, numbers_few c.in_ok-lexicon.numbers c.as_slice.result.now c.loop-text.numbering c.in_ok-lexicon.lexicon c.args.column c.args.texts.now c.in_ok-lexicon.ensures.numbers all c.as_slice.ensures, c.requires)
 
 pub postings_of-requires-clause-numbers : goal.postings_of-requires-clause-numbers
 postings_of-requires-clause-numbers c =
