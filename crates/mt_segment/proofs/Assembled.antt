@@ -1,5 +1,5 @@
 -- The tables of all attributes together, and what is beside them.
-use Rattle.std.proofs.Common.{◌≡◌, ℕ, suc, ◌+◌, ◌<◌, ◌≤◌, Bool, true, false, List, [], ◌∷◌, ◌++◌, length, length-append, map, take, get_or, set, sum, Option, None, Some, refl, sym, ◌∙◌, ap, ap₂, subst, arith, ◌⊎◌, inl, inr}
+use Rattle.std.proofs.Common.{◌≡◌, ℕ, ◌+◌, ◌<◌, ◌≤◌, Bool, true, false, List, [], ◌∷◌, ◌++◌, length, length-append, map, take, get_or, set, sum, Option, None, Some, refl, sym, ◌∙◌, ap, ap₂, subst, arith, ◌⊎◌, inl, inr}
 use Rattle.std.specs.List.{All}
 use Rattle.std.proofs.lemmas.Bool.{cases_lt}
 use Rattle.std.proofs.lemmas.List.{length-set, get_or-set_same, get_or-set_other, get_or_append_left, get_or_push, get_or_default}
@@ -184,7 +184,7 @@ module _ (images : List ℕ → List ℕ → List ℕ) (attrs : List Attr) (old 
 usable_from : (values : List (List ℕ)) (tables : AttrTables) → AreAttrTables None values values tables → length values ≤ tokens_limit → AreUsable tables
 usable_from values tables h few = record { few = omega (arith, h.numbers.count); within = numbers_within tables.numbers values tables.lexicon h.numbers }
 
-pub have_bases : (registry : Registry) (corpus : List Text) (tables : List AttrTables) → ValidRegistry registry → total_tokens corpus ≤ tokens_limit → AreBaseTables registry.attrs corpus tables (length registry.attrs) →
+have_bases : (registry : Registry) (corpus : List Text) (tables : List AttrTables) → ValidRegistry registry → total_tokens corpus ≤ tokens_limit → AreBaseTables registry.attrs corpus tables (length registry.attrs) →
     All (HasBase registry.attrs tables) registry.attrs
 have_bases registry corpus tables valid few h = λ k d l.
     let its : ValidAttr registry.attrs (get_or registry.attrs k d) = valid.attrs k d l in
@@ -202,10 +202,22 @@ have_bases registry corpus tables valid few h = λ k d l.
     none : (base : ℕ) → IsBaseAt registry.attrs base → (attr_of registry.attrs base).base ≡ None
     none base is = ap (λ (a : Attr). a.base) (get_or_from_slice_get registry.attrs base is.attr (base_attr []) is.there) ∙ is.base
 
-module _ (images : List ℕ → List ℕ → List ℕ) (registry : Registry) (corpus : List Text) (first tables : List AttrTables) (bases : All (HasBase registry.attrs first) registry.attrs)
-    (made : AreBaseTables registry.attrs corpus first (length registry.attrs)) (mapped : AreAllMapped images registry.attrs first tables (length registry.attrs)) where
+-- the tables of the base attributes, from which those of the mapped ones can be made
+pub record AreFirst (registry : Registry) (corpus : List Text) (tables : List AttrTables) : Type 0 where
+  pub made : AreBaseTables registry.attrs corpus tables (length registry.attrs)
+  pub bases : All (HasBase registry.attrs tables) registry.attrs
+
+-- where attributes and tables were read once more
+pub are_first : (registry : Registry) (corpus : List Text) (attrs : List Attr) (tables read : List AttrTables) → ValidRegistry registry → total_tokens corpus ≤ tokens_limit → attrs ≡ registry.attrs → read ≡ tables →
+    AreBaseTables attrs corpus tables (length attrs) → AreFirst registry corpus read
+are_first registry corpus attrs tables read valid few e f h =
+    let made : AreBaseTables registry.attrs corpus read (length registry.attrs) = rw f (subst (λ (xs : List Attr). AreBaseTables xs corpus tables (length xs)) e h) in
+    record { made = made; bases = have_bases registry corpus read valid few made }
+
+module _ (images : List ℕ → List ℕ → List ℕ) (registry : Registry) (corpus : List Text) (first tables : List AttrTables) (is_first : AreFirst registry corpus first)
+    (mapped : AreAllMapped images registry.attrs first tables (length registry.attrs)) where
   has_base : (number : ℕ) → number < length registry.attrs → HasBase registry.attrs first (attr_at registry number)
-  has_base number l = bases number (base_attr []) l
+  has_base number l = is_first.bases number (base_attr []) l
 
   attr_made : (number : ℕ) → number < length registry.attrs →
       AreAttrTables (attr_at registry number).base (attr_values images registry corpus number)
@@ -220,35 +232,21 @@ module _ (images : List ℕ → List ℕ → List ℕ) (registry : Registry) (co
           AreAttrTables base (made_of (images (attr_at registry number).mapper) (base_values registry corpus number) (base_values registry corpus) base)
           (made_of (images (attr_at registry number).mapper) (made_of (images (attr_at registry number).mapper) (base_values registry corpus number) (base_values registry corpus) base) (λ b. (tables_at tables b).lexicon) base)
           (tables_at tables number)
-      by None e = rw (mapped.kept number e) (made.at number l e)
+      by None e = rw (mapped.kept number e) (is_first.made.at number l e)
       by (Some base) e =
           let has = has_base number l in
           let none = has.is_base base e in
-          let low : base < length registry.attrs = omega (arith, has.there base e, made.count) in
+          let low : base < length registry.attrs = omega (arith, has.there base e, is_first.made.count) in
           let all : AreAttrTables (Some base) (map (images (attr_at registry number).mapper) (base_values registry corpus base)) (map (images (attr_at registry number).mapper) (tables_at first base).lexicon) (tables_at tables number) =
-          mapped_made base (images (attr_at registry number).mapper) (base_values registry corpus base) (tables_at first base) (tables_at tables number) (made.at base low none) (mapped.mapped number base l e) in
+          mapped_made base (images (attr_at registry number).mapper) (base_values registry corpus base) (tables_at first base) (tables_at tables number) (is_first.made.at base low none) (mapped.mapped number base l e) in
           rw (mapped.kept base none) all
 
   pub all_made : (heads : List (List ℕ × ℕ)) (structs : List (List Instance)) → heads ≡ heads_of corpus → AreInstances corpus structs (length registry.kinds) →
       AreTablesOf images registry corpus (record { texts = heads; attrs = tables; structs = structs })
   all_made heads structs e inst = record {
     texts = e;
-    attr_count = mapped.count ∙ made.count;
+    attr_count = mapped.count ∙ is_first.made.count;
     attrs = λ number l. attr_made number l;
     kind_count = inst.count;
     structs = λ kind l. inst.at kind l;
   }
-
-  due_same : (names : List (List ℕ)) (mapper : ℕ) (attrs : List Attr) → All (HasBase registry.attrs first) attrs → calls_due names tables attrs mapper ≡ calls_due names first attrs mapper
-  due_same names mapper attrs all = ap sum (each attrs all)
-    where
-      one : (attr : Attr) → HasBase registry.attrs first attr → (base : Option ℕ) → attr.base ≡ base → calls_of names tables mapper attr.mapper base ≡ calls_of names first mapper attr.mapper base
-      one attr has None e = refl
-      one attr has (Some base) e = rw (mapped.kept base (has.is_base base e)) refl
-
-      each : (attrs : List Attr) → All (HasBase registry.attrs first) attrs → map (λ attr. calls_of names tables mapper attr.mapper attr.base) attrs ≡ map (λ attr. calls_of names first mapper attr.mapper attr.base) attrs
-      each [] all = refl
-      each (attr ∷ attrs) all = ap₂ (λ (n : ℕ) (ns : List ℕ). n ∷ ns) (one attr (all 0 attr (omega arith)) attr.base refl) (each attrs (λ k d l. all (suc k) d (omega arith)))
-
-  pub all_counted : (names : List (List ℕ)) (old new : List ℕ) → AreCounted (calls_due names first registry.attrs) old new → AreCounted (calls_due names tables registry.attrs) old new
-  all_counted names old new h = record { count = h.count; at = λ m l. h.at m l ∙ ap (counted (get_or old m 0)) (sym (due_same names m registry.attrs bases)) }
