@@ -83,14 +83,17 @@ base_more attrs corpus tables i column attr made h l is e its = record {
 
 -- ---- mapped attributes
 
-module _ (images : List ℕ → List ℕ → List ℕ) (attrs : List Attr) (old now new : List AttrTables) (number : ℕ) (attr : Attr) (h : AreAllMapped images attrs old now number) (l : number < length attrs)
-    (count : length old ≡ length attrs) (is : attr ≡ get_or attrs number attr) (based : HasBase attrs old attr) where
+module _ (images : List ℕ → List ℕ → List ℕ) (attrs : List Attr) (old now : List AttrTables) (number : ℕ) (attr : Attr) (h : AreAllMapped images attrs old now number) (l : number < length attrs)
+    (count : length old ≡ length attrs) (is : attr ≡ get_or attrs number attr) (bases : All (HasBase attrs old) attrs) where
+  based : HasBase attrs old attr
+  based = rw (sym is) at (bases number attr l)
+
   its_base : attr_of attrs number ≡ attr
   its_base = read_attr attrs number attr l is
 
   -- an attribute that is not mapped
-  unmapped_more : new ≡ now → attr.base ≡ None → AreAllMapped images attrs old new (number + 1)
-  unmapped_more e none = record {
+  unmapped_more : (new : List AttrTables) → new ≡ now → attr.base ≡ None → AreAllMapped images attrs old new (number + 1)
+  unmapped_more new e none = record {
     count = ap length e ∙ h.count;
     kept = λ k b. ap (λ (ts : List AttrTables). tables_at ts k) e ∙ h.kept k b;
     mapped = λ k base m some. rw e (by k base (cases_lt k number) m some);
@@ -104,8 +107,8 @@ module _ (images : List ℕ → List ℕ → List ℕ) (attrs : List Attr) (old 
           absurd cc
 
   -- one that is
-  mapped_more : (base : ℕ) (made : AttrTables) → attr.base ≡ Some base → new ≡ set now number made → AreMapped base (images attr.mapper) (tables_at now base) made → AreAllMapped images attrs old new (number + 1)
-  mapped_more base made some e right = record {
+  mapped_more : (new : List AttrTables) (base : ℕ) (made : AttrTables) → attr.base ≡ Some base → new ≡ set now number made → AreMapped base (images attr.mapper) (tables_at now base) made → AreAllMapped images attrs old new (number + 1)
+  mapped_more new base made some e right = record {
     count = ap length e ∙ length-set now number made ∙ h.count;
     kept = λ k b. ap (λ (ts : List AttrTables). tables_at ts k) e ∙ get_or-set_other now number k made (tables_at [] 0) (differs k b) ∙ h.kept k b;
     mapped = λ k under m its. rw e (by k under (cases_lt k number) m its);
@@ -133,12 +136,12 @@ module _ (images : List ℕ → List ℕ → List ℕ) (attrs : List Attr) (old 
           (rw (get_or-set_same now number made (tables_at [] 0) within, its_base)
           (subst (λ (n : ℕ). AreMapped n (images attr.mapper) (tables_at old n) made) one (subst (λ (t : AttrTables). AreMapped base (images attr.mapper) t made) before right)))
 
-  pub all_mapped_more : IsMappedAt (images attr.mapper) attr.base number now new → AreAllMapped images attrs old new (number + 1)
-  all_mapped_more step = by attr.base refl step
+  pub all_mapped_more : (new : List AttrTables) → IsMappedAt (images attr.mapper) attr.base number now new → AreAllMapped images attrs old new (number + 1)
+  all_mapped_more new step = by attr.base refl step
     where
       by : (base : Option ℕ) → attr.base ≡ base → IsMappedAt (images attr.mapper) base number now new → AreAllMapped images attrs old new (number + 1)
-      by None e step = unmapped_more step e
-      by (Some base) e (made, is_set, right) = mapped_more base made e is_set right
+      by None e step = unmapped_more new step e
+      by (Some base) e (made, is_set, right) = mapped_more new base made e is_set right
 
   -- the base of an attribute has its tables still
   pub usable_still : (base : ℕ) → attr.base ≡ Some base → (base < length now) × AreUsable (tables_at now base)

@@ -107,36 +107,32 @@ due_one number k n e = grind (arith, nat_tests)
 due_none : (number k n : ℕ) → (number ≡ k → ⊥) → (if number == k then n else 0) ≡ 0
 due_none number k n d = grind (arith, nat_tests)
 
--- one mapper was called, and the others were not
-pub counted_one : (old : List ℕ) (at number n y : ℕ) → at ≡ number → at < length old → y ≡ counted (get_or old at 0) n → AreCounted (λ m. if number == m then n else 0) old (set old at y)
+-- One mapper was called, and the others were not. `P` says of a count before, of the calls that are due and of the count after how often it was called.
+module _ (P : ℕ → ℕ → ℕ → Type 0) (none : (x : ℕ) → P x 0 x) (old : List ℕ) (at number n y : ℕ) (e : at ≡ number) (l : at < length old) (is : P (get_or old at 0) n y) where
+  only_one : (k : ℕ) → P (get_or old k 0) (if number == k then n else 0) (get_or (set old at y) k 0)
+  only_one k = by (cases_eq k at)
+    where
+      by : (k ≡ at) ⊎ (k ≡ at → ⊥) → P (get_or old k 0) (if number == k then n else 0) (get_or (set old at y) k 0)
+      by (inl same) =
+          let due : (if number == k then n else 0) ≡ n = due_one number k n (sym (same ∙ e)) in
+          let new : get_or (set old at y) at 0 ≡ y = get_or-set_same old at y 0 l in
+          rw (due, same, new) is
+      by (inr differs) =
+          let due : (if number == k then n else 0) ≡ 0 = due_none number k n (λ f. differs (sym (e ∙ f))) in
+          let new : get_or (set old at y) k 0 ≡ get_or old k 0 = get_or-set_other old at k y 0 differs in
+          rw (due, new) (none (get_or old k 0))
+
+counted_one : (old : List ℕ) (at number n y : ℕ) → at ≡ number → at < length old → y ≡ counted (get_or old at 0) n → AreCounted (λ m. if number == m then n else 0) old (set old at y)
 counted_one old at number n y e l is = record {
   count = length-set old at y;
-  at = λ k m. by k (cases_eq k at);
+  at = λ k m. only_one (λ x due z. z ≡ counted x due) (λ x. sym (counted_none x)) old at number n y e l is k;
 }
-  where
-    by : (k : ℕ) → (k ≡ at) ⊎ (k ≡ at → ⊥) → get_or (set old at y) k 0 ≡ counted (get_or old k 0) (if number == k then n else 0)
-    by k (inl same) =
-        let due : (if number == k then n else 0) ≡ n = due_one number k n (sym (same ∙ e)) in
-        rw (due, same) (get_or-set_same old at y 0 l ∙ is)
-    by k (inr differs) =
-        let due : (if number == k then n else 0) ≡ 0 = due_none number k n (λ f. differs (sym (e ∙ f))) in
-        rw due (get_or-set_other old at k y 0 differs ∙ sym (counted_none (get_or old k 0)))
 
-pub counted_one_at_most : (old : List ℕ) (at number n y : ℕ) → at ≡ number → at < length old → CountedAtMost (get_or old at 0) n y → AreCountedAtMost (λ m. if number == m then n else 0) old (set old at y)
+counted_one_at_most : (old : List ℕ) (at number n y : ℕ) → at ≡ number → at < length old → CountedAtMost (get_or old at 0) n y → AreCountedAtMost (λ m. if number == m then n else 0) old (set old at y)
 counted_one_at_most old at number n y e l is = record {
   count = length-set old at y;
-  at = λ k m. by k (cases_eq k at);
+  at = λ k m. only_one CountedAtMost (λ x. record { more = 0; few = omega arith; are = sym (counted_none x) }) old at number n y e l is k;
 }
-  where
-    by : (k : ℕ) → (k ≡ at) ⊎ (k ≡ at → ⊥) → CountedAtMost (get_or old k 0) (if number == k then n else 0) (get_or (set old at y) k 0)
-    by k (inl same) =
-        let due : (if number == k then n else 0) ≡ n = due_one number k n (sym (same ∙ e)) in
-        let new : get_or (set old at y) at 0 ≡ y = get_or-set_same old at y 0 l in
-        rw (due, same, new) is
-    by k (inr differs) =
-        let due : (if number == k then n else 0) ≡ 0 = due_none number k n (λ f. differs (sym (e ∙ f))) in
-        let new : get_or (set old at y) k 0 ≡ get_or old k 0 = get_or-set_other old at k y 0 differs in
-        rw (due, new) (record { more = 0; few = omega arith; are = sym (counted_none (get_or old k 0)) })
 
 module _ {M : Type 0} (calls : M → ℕ) (mappers : List M) (at number n : ℕ) (d new : M) (e : at ≡ number) (l : at < length mappers) where
   read : get_or (map calls mappers) at 0 ≡ calls (get_or mappers at d)
