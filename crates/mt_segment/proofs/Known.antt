@@ -30,24 +30,26 @@ length-attr_values images registry corpus tables number e = by (attr_at registry
     by None = length-base_values registry corpus tables number e
     by (Some b) = length-map (base_values registry corpus b) (images (attr_at registry number).mapper) ∙ length-base_values registry corpus tables b e
 
--- what a base attribute's tables are
+-- what the numbers of an attribute with this base are
+numbers_are : (images : List ℕ → List ℕ → List ℕ) (registry : Registry) (corpus : List Text) (tables : Tables) → AreTablesOf images registry corpus tables → (number : ℕ) (base : Option ℕ) → number < length tables.attrs →
+    (tables_at tables.attrs number).base ≡ base →
+    Renumbers (tables_at tables.attrs number).numbers (made_of (images (attr_at registry number).mapper) (attr_values images registry corpus number) (λ b. (tables_at tables.attrs b).lexicon) base) (tables_at tables.attrs number).lexicon
+numbers_are images registry corpus tables are number base l e =
+    let h = are.attrs number (omega (arith, are.attr_count)) in
+    subst (λ (o : Option ℕ). Renumbers (tables_at tables.attrs number).numbers
+    (made_of (images (attr_at registry number).mapper) (attr_values images registry corpus number) (λ b. (tables_at tables.attrs b).lexicon) o) (tables_at tables.attrs number).lexicon)
+    (sym h.based ∙ e) h.numbers
+
+-- those of a base attribute
 pub column_is : (images : List ℕ → List ℕ → List ℕ) (registry : Registry) (corpus : List Text) (tables : Tables) → AreTablesOf images registry corpus tables → (number : ℕ) → number < length tables.attrs →
     (tables_at tables.attrs number).base ≡ None → Renumbers (tables_at tables.attrs number).numbers (attr_values images registry corpus number) (tables_at tables.attrs number).lexicon
-column_is images registry corpus tables are number l none =
-    let h = are.attrs number (omega (arith, are.attr_count)) in
-    subst (λ (base : Option ℕ). Renumbers (tables_at tables.attrs number).numbers
-    (made_of (images (attr_at registry number).mapper) (attr_values images registry corpus number) (λ b. (tables_at tables.attrs b).lexicon) base) (tables_at tables.attrs number).lexicon)
-    (sym h.based ∙ none) h.numbers
+column_is images registry corpus tables are number l none = numbers_are images registry corpus tables are number None l none
 
 -- and a mapped one's
 pub table_is : (images : List ℕ → List ℕ → List ℕ) (registry : Registry) (corpus : List Text) (tables : Tables) → AreTablesOf images registry corpus tables → (number base : ℕ) → number < length tables.attrs →
     (tables_at tables.attrs number).base ≡ Some base →
     Renumbers (tables_at tables.attrs number).numbers (map (images (attr_at registry number).mapper) (tables_at tables.attrs base).lexicon) (tables_at tables.attrs number).lexicon
-table_is images registry corpus tables are number base l some =
-    let h = are.attrs number (omega (arith, are.attr_count)) in
-    subst (λ (o : Option ℕ). Renumbers (tables_at tables.attrs number).numbers
-    (made_of (images (attr_at registry number).mapper) (attr_values images registry corpus number) (λ b. (tables_at tables.attrs b).lexicon) o) (tables_at tables.attrs number).lexicon)
-    (sym h.based ∙ some) h.numbers
+table_is images registry corpus tables are number base l some = numbers_are images registry corpus tables are number (Some base) l some
 
 -- ---- what the accessors need
 
@@ -83,33 +85,33 @@ table_long tables known number base l some =
 
 -- ---- the same at tables that were read
 
-read_is : (attrs : List AttrTables) (number : ℕ) (read : AttrTables) → read ≡ get_or attrs number read → number < length attrs → tables_at attrs number ≡ read
-read_is attrs number read e l = sym (e ∙ get_or_default attrs number read (tables_at [] 0) l)
+pub record IsRead (tables : Tables) (attr : ℕ) (read : AttrTables) : Type 0 where
+  pub within : attr < length tables.attrs
+  pub is : read ≡ get_or tables.attrs attr read
 
-pub in_column : (tables now : Tables) → AreTables tables → tables ≡ now → (attr place : ℕ) (read : AttrTables) → attr < length tables.attrs → read ≡ get_or tables.attrs attr read → read.base ≡ None →
-    place < token_count now → place < length read.numbers
-in_column tables now known view attr place read l is none m =
-    let e : tables_at tables.attrs attr ≡ read = read_is tables.attrs attr read is l in
-    omega (arith, column_long tables known attr l (ap (λ (t : AttrTables). t.base) e ∙ none), ap (λ (t : AttrTables). length t.numbers) e, ap (λ (t : Tables). token_count t) view)
+read_is : (tables : Tables) (attr : ℕ) (read : AttrTables) → IsRead tables attr read → tables_at tables.attrs attr ≡ read
+read_is tables attr read h = sym (h.is ∙ get_or_default tables.attrs attr read (tables_at [] 0) h.within)
 
-pub its_base : (tables : Tables) → AreTables tables → (attr base : ℕ) (read : AttrTables) → attr < length tables.attrs → read ≡ get_or tables.attrs attr read → read.base ≡ Some base →
-    (base < length tables.attrs) × ((tables_at tables.attrs base).base ≡ None)
-its_base tables known attr base read l is some =
-    let e : tables_at tables.attrs attr ≡ read = read_is tables.attrs attr read is l in
-    base_there tables known attr base l (ap (λ (t : AttrTables). t.base) e ∙ some)
+pub in_column : (tables now : Tables) → AreTables tables → tables ≡ now → (attr place : ℕ) (read : AttrTables) → IsRead tables attr read → read.base ≡ None → place < token_count now → place < length read.numbers
+in_column tables now known view attr place read h none m =
+    let e : tables_at tables.attrs attr ≡ read = read_is tables attr read h in
+    omega (arith, column_long tables known attr h.within (ap (λ (t : AttrTables). t.base) e ∙ none), ap (λ (t : AttrTables). length t.numbers) e, ap (λ (t : Tables). token_count t) view)
 
-pub in_base_column : (tables now : Tables) → AreTables tables → tables ≡ now → (attr base place : ℕ) (read under : AttrTables) → attr < length tables.attrs → read ≡ get_or tables.attrs attr read → read.base ≡ Some base →
-    under ≡ get_or tables.attrs base under → place < token_count now → place < length under.numbers
-in_base_column tables now known view attr base place read under l is some below m =
-    let there = its_base tables known attr base read l is some in
-    let e : tables_at tables.attrs base ≡ under = read_is tables.attrs base under below there.0 in
-    in_column tables now known view base place under there.0 below (sym (ap (λ (t : AttrTables). t.base) e) ∙ there.1) m
+pub its_base : (tables : Tables) → AreTables tables → (attr base : ℕ) (read : AttrTables) → IsRead tables attr read → read.base ≡ Some base → (base < length tables.attrs) × ((tables_at tables.attrs base).base ≡ None)
+its_base tables known attr base read h some = base_there tables known attr base h.within (ap (λ (t : AttrTables). t.base) (read_is tables attr read h) ∙ some)
 
-pub in_table : (tables now : Tables) → AreTables tables → tables ≡ now → (attr base place number : ℕ) (read under : AttrTables) → attr < length tables.attrs → read ≡ get_or tables.attrs attr read → read.base ≡ Some base →
-    under ≡ get_or tables.attrs base under → place < token_count now → number ≡ get_or under.numbers place 0 → number < length read.numbers
-in_table tables now known view attr base place number read under l is some below m at =
-    let there = its_base tables known attr base read l is some in
-    let e : tables_at tables.attrs base ≡ under = read_is tables.attrs base under below there.0 in
-    let f : tables_at tables.attrs attr ≡ read = read_is tables.attrs attr read is l in
+pub in_base_column : (tables now : Tables) → AreTables tables → tables ≡ now → (attr base place : ℕ) (read under : AttrTables) → IsRead tables attr read → read.base ≡ Some base → under ≡ get_or tables.attrs base under →
+    place < token_count now → place < length under.numbers
+in_base_column tables now known view attr base place read under h some below m =
+    let there = its_base tables known attr base read h some in
+    let its : IsRead tables base under = record { within = there.0; is = below } in
+    in_column tables now known view base place under its (sym (ap (λ (t : AttrTables). t.base) (read_is tables base under its)) ∙ there.1) m
+
+pub in_table : (tables now : Tables) → AreTables tables → tables ≡ now → (attr base place number : ℕ) (read under : AttrTables) → IsRead tables attr read → read.base ≡ Some base → under ≡ get_or tables.attrs base under →
+    place < token_count now → number ≡ get_or under.numbers place 0 → number < length read.numbers
+in_table tables now known view attr base place number read under h some below m at =
+    let there = its_base tables known attr base read h some in
+    let e : tables_at tables.attrs base ≡ under = read_is tables base under (record { within = there.0; is = below }) in
+    let f : tables_at tables.attrs attr ≡ read = read_is tables attr read h in
     let low = number_within tables known base there.0 there.1 place (omega (arith, ap (λ (t : Tables). token_count t) view)) in
-    omega (arith, low, at, ap (λ (t : AttrTables). get_or t.numbers place 0) e, table_long tables known attr base l (ap (λ (t : AttrTables). t.base) f ∙ some), ap (λ (t : AttrTables). length t.numbers) f)
+    omega (arith, low, at, ap (λ (t : AttrTables). get_or t.numbers place 0) e, table_long tables known attr base h.within (ap (λ (t : AttrTables). t.base) f ∙ some), ap (λ (t : AttrTables). length t.numbers) f)
