@@ -69,9 +69,6 @@ base_more attrs corpus tables i column attr made h l is e its = record {
   at = λ k m base. by k (cases_lt k i) m base;
 }
   where
-    Right : ℕ → AttrTables → Type 0
-    Right k t = AreAttrTables None (column_values (column_of attrs k) corpus) (column_values (column_of attrs k) corpus) t
-
     by : (k : ℕ) → (k < i) ⊎ (i ≤ k) → k < i + 1 → (attr_of attrs k).base ≡ None →
         AreAttrTables None (column_values (column_of attrs k) corpus) (column_values (column_of attrs k) corpus) (tables_at (tables ++ made ∷ []) k)
     by k (inl low) m base = rw (get_or_append_left tables (made ∷ []) (tables_at [] 0) k (omega (arith, h.count))) (h.at k low base)
@@ -142,10 +139,6 @@ module _ (images : List ℕ → List ℕ → List ℕ) (attrs : List Attr) (old 
       by : (base : Option ℕ) → attr.base ≡ base → IsMappedAt (images attr.mapper) base number now new → AreAllMapped images attrs old new (number + 1)
       by None e step = unmapped_more new step e
       by (Some base) e (made, is_set, right) = mapped_more new base made e is_set right
-
-  -- the base of an attribute has its tables still
-  pub usable_still : (base : ℕ) → attr.base ≡ Some base → (base < length now) × AreUsable (tables_at now base)
-  usable_still base some = (omega (arith, based.there base some, h.count), subst AreUsable (sym (h.kept base (based.is_base base some))) (based.usable base some))
 
   calls_same : (names : List (List ℕ)) (mapper : ℕ) → calls_of names now mapper attr.mapper attr.base ≡ calls_of names old mapper attr.mapper attr.base
   calls_same names mapper = by attr.base refl

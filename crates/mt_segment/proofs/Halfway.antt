@@ -1,10 +1,9 @@
 -- Calls of mappers, also where memory is wanted half-way.
-use Rattle.std.proofs.Common.{◌≡◌, ℕ, suc, ◌<◌, ◌==◌, List, [], ◌∷◌, length, map, get_or, sum, Option, None, Some, Result, Ok, Err, OnErr, refl, sym, ◌∙◌, ap, ap₂, subst, arith, if◌then◌else◌}
+use Rattle.std.proofs.Common.{◌≡◌, ℕ, suc, ◌<◌, ◌==◌, List, [], ◌∷◌, length, map, get_or, sum, Option, None, Some, Result, Ok, Err, OnErr, refl, ◌∙◌, ap, ap₂, subst, arith, if◌then◌else◌}
 use Rattle.std.specs.List.{All}
 use Rattle.mt_text_spec.specs.Registries.{Registry, Attr}
 use Rattle.mt_text_spec.specs.Texts.{Text}
 use Rattle.mt_mapper.specs.Calls.{counted, CountedAtMost}
-use Rattle.mt_mapper.proofs.Counts.{counted_none}
 use Rattle.mt_lexicon.proofs.Lexicons.{one_lexicon}
 use Rattle.mt_segment_spec.specs.Tables.{AttrTables, Tables, AreTablesOf, attr_at, attr_values, base_values, made_of, tables_at}
 use Rattle.mt_segment.specs.Building.{HasBase}
@@ -16,15 +15,11 @@ pub always : {T E : Type 0} → (r : Result T E) → {P : Type 0} → P → OnEr
 always (Ok _) p = tt
 always (Err _) p = p
 
--- no call is few enough
-pub none_called : (due : ℕ → ℕ) (calls : List ℕ) → AreCountedAtMost due calls calls
-none_called due calls = record { count = refl; at = λ m l. record { more = 0; few = omega arith; are = sym (counted_none (get_or calls m 0)) } }
-
--- and so are all calls
+-- all calls are few enough
 pub all_called : (due : ℕ → ℕ) (old new : List ℕ) → AreCounted due old new → AreCountedAtMost due old new
 all_called due old new h = record { count = h.count; at = λ m l. record { more = due m; few = omega arith; are = h.at m l } }
 
-pub same_due : (due other : ℕ → ℕ) (old new : List ℕ) → ((m : ℕ) → due m ≡ other m) → AreCountedAtMost due old new → AreCountedAtMost other old new
+same_due : (due other : ℕ → ℕ) (old new : List ℕ) → ((m : ℕ) → due m ≡ other m) → AreCountedAtMost due old new → AreCountedAtMost other old new
 same_due due other old new e h = record { count = h.count; at = λ m l. subst (λ (n : ℕ). CountedAtMost (get_or old m 0) n (get_or new m 0)) (e m) (h.at m l) }
 
 -- the tables of the base attributes tell what is due by any tables of the texts

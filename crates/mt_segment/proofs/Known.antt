@@ -5,7 +5,7 @@ use Rattle.std.proofs.lemmas.List.Concat.{length-flat_map}
 use Rattle.std.proofs.lemmas.List.Sums.{sum-map}
 use Rattle.std.proofs.lemmas.Simd.{map-map}
 use Rattle.std.proofs.lemmas.Option.{slice_get_within, get_or_from_slice_get}
-use Rattle.mt_text_spec.specs.Registries.{Registry, Attr, ValidAttr, IsBaseAt, base_attr, column_of}
+use Rattle.mt_text_spec.specs.Registries.{Registry, Attr, ValidRegistry, ValidAttr, IsBaseAt, base_attr, column_of}
 use Rattle.mt_text_spec.specs.Texts.{Text, value_of, tokens_of}
 use Rattle.mt_store_spec.specs.Lexicons.{Renumbers}
 use Rattle.mt_lexicon.proofs.Renumbered.{numbers_within}
@@ -59,16 +59,20 @@ column_long tables known number l none =
     (column_is known.under.images known.registry known.under.corpus tables are number l none).count
     ∙ length-attr_values known.under.images known.registry known.under.corpus tables number are.texts
 
+pub base_is : (images : List ℕ → List ℕ → List ℕ) (registry : Registry) (corpus : List Text) (tables : Tables) → ValidRegistry registry → AreTablesOf images registry corpus tables → (number base : ℕ) → number < length tables.attrs →
+    (tables_at tables.attrs number).base ≡ Some base → (base < length tables.attrs) × ((attr_at registry base).base ≡ None)
+base_is images registry corpus tables valid are number base l some =
+    let within : number < length registry.attrs = omega (arith, are.attr_count) in
+    let its : ValidAttr registry.attrs (attr_at registry number) = valid.attrs number (base_attr []) within in
+    let is : IsBaseAt registry.attrs base = its.based base (sym (are.attrs number within).based ∙ some) in
+    (omega (arith, are.attr_count, slice_get_within registry.attrs base is.attr is.there), ap (λ (a : Attr). a.base) (get_or_from_slice_get registry.attrs base is.attr (base_attr []) is.there) ∙ is.base)
+
 pub base_there : (tables : Tables) → AreTables tables → (number base : ℕ) → number < length tables.attrs → (tables_at tables.attrs number).base ≡ Some base →
     (base < length tables.attrs) × ((tables_at tables.attrs base).base ≡ None)
 base_there tables known number base l some =
-    let are = known.under.are in
-    let registry = known.registry in
-    let within : number < length registry.attrs = omega (arith, are.attr_count) in
-    let valid : ValidAttr registry.attrs (attr_at registry number) = known.under.valid.attrs number (base_attr []) within in
-    let is : IsBaseAt registry.attrs base = valid.based base (sym (are.attrs number within).based ∙ some) in
-    let low : base < length registry.attrs = slice_get_within registry.attrs base is.attr is.there in
-    (omega (arith, are.attr_count), (are.attrs base low).based ∙ ap (λ (a : Attr). a.base) (get_or_from_slice_get registry.attrs base is.attr (base_attr []) is.there) ∙ is.base)
+    let under = known.under in
+    let (low, none) = base_is under.images known.registry under.corpus tables under.valid under.are number base l some in
+    (low, (under.are.attrs base (omega (arith, under.are.attr_count))).based ∙ none)
 
 pub number_within : (tables : Tables) → AreTables tables → (number : ℕ) → number < length tables.attrs → (tables_at tables.attrs number).base ≡ None → (place : ℕ) → place < token_count tables →
     get_or (tables_at tables.attrs number).numbers place 0 < length (tables_at tables.attrs number).lexicon

@@ -47,12 +47,6 @@ module _ (attrs : List Attr) (t : List AttrTables) (i : ℕ) (all : List AttrTab
   next : First attr.base (drop i t)
   next = first_of attr.base (map (λ a. a.base) (drop (i + 1) attrs)) (drop i t) next_bases
 
-  pub has_lexicon : 0 < length lexicons
-  has_lexicon = omega (arith, ap length h.left.lexicons_are, ap (λ (ts : List AttrTables). length (map (λ attr. attr.lexicon) ts)) next.is)
-
-  pub has_postings : 0 < length postings
-  has_postings = omega (arith, ap length h.left.postings_are, ap (λ (ts : List AttrTables). length (map (λ attr. attr.postings) ts)) next.is)
-
   pub has_numbers : HasNumbers attr.base columns mapped
   has_numbers = by attr.base refl
     where

@@ -2,21 +2,14 @@
 use Rattle.std.proofs.Common.{◌≡◌, ℕ, ◌<◌, List, [], length, map, get_or, slice_get, Option, None, Some, refl, sym, ◌∙◌, ap, arith}
 use Rattle.std.specs.Option.{option_map}
 use Rattle.std.proofs.lemmas.List.{length-map, get_or-map}
-use Rattle.std.proofs.lemmas.Option.{slice_get-get_or, slice_get-map, slice_get_within, get_or_from_slice_get}
-use Rattle.mt_text_spec.specs.Registries.{Registry, Attr, ValidRegistry, ValidAttr, IsBaseAt, base_attr}
+use Rattle.std.proofs.lemmas.Option.{slice_get-get_or, slice_get-map, slice_get_within}
+use Rattle.mt_text_spec.specs.Registries.{Registry, ValidRegistry}
 use Rattle.mt_text_spec.specs.Texts.{Text}
 use Rattle.mt_segment_spec.specs.Tables.{Tables, AreTables, AreTablesOf, attr_at, attr_values, base_values, made_of, number_at, number_by, tables_at, token_count}
 use Rattle.mt_segment.specs.Laws.{NumbersStandForValues}
-use Rattle.mt_segment.proofs.Known.{column_is, table_is, length-attr_values}
+use Rattle.mt_segment.proofs.Known.{base_is, column_is, table_is, length-attr_values}
 
 module _ (images : List ℕ → List ℕ → List ℕ) (registry : Registry) (corpus : List Text) (tables : Tables) (valid : ValidRegistry registry) (are : AreTablesOf images registry corpus tables) where
-  base_is : (number base : ℕ) → number < length tables.attrs → (tables_at tables.attrs number).base ≡ Some base → (base < length tables.attrs) × ((attr_at registry base).base ≡ None)
-  base_is number base l some =
-      let within : number < length registry.attrs = omega (arith, are.attr_count) in
-      let its : ValidAttr registry.attrs (attr_at registry number) = valid.attrs number (base_attr []) within in
-      let is : IsBaseAt registry.attrs base = its.based base (sym (are.attrs number within).based ∙ some) in
-      (omega (arith, are.attr_count, slice_get_within registry.attrs base is.attr is.there), ap (λ (a : Attr). a.base) (get_or_from_slice_get registry.attrs base is.attr (base_attr []) is.there) ∙ is.base)
-
   -- the values of an attribute with this base
   values_are : (number : ℕ) (base : Option ℕ) → (attr_at registry number).base ≡ base →
       attr_values images registry corpus number ≡ made_of (images (attr_at registry number).mapper) (base_values registry corpus number) (base_values registry corpus) base
@@ -37,7 +30,7 @@ module _ (images : List ℕ → List ℕ → List ℕ) (registry : Registry) (co
       let image = images (attr_at registry number).mapper in
       let under = (tables_at tables.attrs base).lexicon in
       let values = attr_values images registry corpus base in
-      let (low, none) = base_is number base l some in
+      let (low, none) = base_is images registry corpus tables valid are number base l some in
       let its_none : (tables_at tables.attrs base).base ≡ None = (are.attrs base (omega (arith, are.attr_count))).based ∙ none in
       let k = get_or (tables_at tables.attrs base).numbers place 0 in
       let here : slice_get under k ≡ Some (get_or values place []) = at_base base place low its_none m in

@@ -1,12 +1,12 @@
 -- Columns of values, their numbers and their places.
-use Rattle.std.proofs.Common.{◌≡◌, ℕ, ◌+◌, ◌<◌, ◌≤◌, List, [], ◌∷◌, ◌++◌, length, map, take, get_or, slice_get, None, Some, sym, ◌∙◌, ap, subst, arith, ◌⊎◌, inl, inr}
+use Rattle.std.proofs.Common.{◌≡◌, ℕ, ◌+◌, ◌<◌, ◌≤◌, List, [], length, take, get_or, slice_get, None, Some, sym, ◌∙◌, ap, subst, arith, ◌⊎◌, inl, inr}
 use Rattle.std.specs.List.{All}
 use Rattle.std.specs.Ordering.{nat_cmp}
 use Rattle.std.specs.Cmp.Lexicographic.{slice_cmp, nat_list_cmp_total}
 use Rattle.std.specs.declared.cmp.Ordering.TheVariants.{Equal}
 use Rattle.std.proofs.lemmas.Bool.{cases_lt}
 use Rattle.std.proofs.lemmas.Cmp.{tied_itself}
-use Rattle.std.proofs.lemmas.List.{length-map, map-append, take_more, take_all, flat_map_more}
+use Rattle.std.proofs.lemmas.List.{length-map, take_all}
 use Rattle.std.proofs.lemmas.List.Concat.{length-flat_map}
 use Rattle.std.proofs.lemmas.List.Sums.{sum-map, sum_by_more_le}
 use Rattle.std.proofs.lemmas.Option.{slice_get-get_or, slice_get_within, get_or_from_slice_get}
@@ -22,16 +22,7 @@ pub length-column_values : (column : ℕ) (corpus : List Text) → length (colum
 length-column_values column corpus =
     length-map (tokens_of corpus) (λ token. value_of token column) ∙ length-flat_map (λ (text : Text). text.tokens) corpus ∙ sym (sum-map (λ (text : Text). length text.tokens) corpus)
 
--- one text more
-pub column_more : (column : ℕ) (corpus : List Text) (i : ℕ) (text : Text) → i < length corpus → text ≡ get_or corpus i text →
-    column_values column (take (i + 1) corpus) ≡ column_values column (take i corpus) ++ map (λ token. value_of token column) text.tokens
-column_more column corpus i text l e =
-    let read : get_or corpus i text ≡ text = sym e in
-    ap (column_values column) (take_more corpus i text l ∙ ap (λ (t : Text). take i corpus ++ t ∷ []) read)
-    ∙ ap (map (λ token. value_of token column)) (sym (flat_map_more (λ (t : Text). t.tokens) [] (take i corpus) text))
-    ∙ map-append (λ token. value_of token column) (tokens_of (take i corpus)) text.tokens
-
--- there is room for it
+-- there is room for one text more
 pub column_fits : (column : ℕ) (corpus : List Text) (i : ℕ) (text : Text) → i < length corpus → text ≡ get_or corpus i text →
     length (column_values column (take i corpus)) + length text.tokens ≤ total_tokens corpus
 column_fits column corpus i text l e =
