@@ -1,6 +1,6 @@
 //! Reading a query, token by token: sequences, choices, parentheses and filters.
 
-ghost use Rattle.std.specs.Prelude.{◌≡◌, Some, map, IfOk};
+ghost use Rattle.std.specs.Prelude.{◌≡◌, [], Some, map, IfOk};
 ghost use Rattle.mt_cql.specs.Exprs as exprs;
 ghost use Rattle.mt_cql.specs.Parts as spec;
 ghost use Rattle.mt_cql.specs.Seen.{token_seen};
@@ -153,6 +153,37 @@ impl<'a> Reader<'a> {
         }
     }
 
+    /// What an op filters behind a choice that stands in no parentheses, and the heads outside.
+    #[tactic(auto, unfolding(crate::specs::Exprs::before_op))]
+    fn filtered_by(
+        &self,
+        choice: Part,
+        heads: Stack<Head>,
+    ) -> Result<(Asked, Stack<Head>), NoMemory>
+        ensures { IfOk result (λ found. maybe_filtered_seen (Some found) ≡ exprs.before_op (ways self.now) (part_seen choice) [] (map head_seen heads)) }
+    {
+        let mut heads = heads;
+        match heads.pop() {
+            None => Ok((
+                Asked {
+                    choice,
+                    filters: None,
+                },
+                heads,
+            )),
+            Some(head) => match self.with_operand(head.filters, head.op, choice) {
+                Err(e) => Err(e),
+                Ok(filters) => Ok((
+                    Asked {
+                        choice: head.choice,
+                        filters: Some(filters),
+                    },
+                    heads,
+                )),
+            },
+        }
+    }
+
     /// A choice ends before an op: what the op filters, and the heads outside.
     #[tactic(auto, unfolding(crate::specs::Exprs::before_op))]
     pub fn before_op(
@@ -163,29 +194,11 @@ impl<'a> Reader<'a> {
         ensures { IfOk result (λ found. maybe_filtered_seen found
             ≡ exprs.before_op (ways self.now) (part_seen choice) (map group_seen around.groups) (map head_seen around.heads)) }
     {
-        let Around {
-            mut groups,
-            mut heads,
-        } = around;
+        let Around { mut groups, heads } = around;
         match groups.pop() {
-            None => match heads.pop() {
-                None => Ok(Some((
-                    Asked {
-                        choice,
-                        filters: None,
-                    },
-                    heads,
-                ))),
-                Some(head) => match self.with_operand(head.filters, head.op, choice) {
-                    Err(e) => Err(e),
-                    Ok(filters) => Ok(Some((
-                        Asked {
-                            choice: head.choice,
-                            filters: Some(filters),
-                        },
-                        heads,
-                    ))),
-                },
+            None => match self.filtered_by(choice, heads) {
+                Err(e) => Err(e),
+                Ok(found) => Ok(Some(found)),
             },
             Some(group) => {
                 let opens = opens_operand(&group, &groups, &heads);

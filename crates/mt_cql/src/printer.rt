@@ -3,6 +3,8 @@
 ghost use Rattle.std.specs.Prelude.{◌≡◌, ◌==◌, ◌∷◌, ◌++◌, codes, decimal, cond, drop, take, length, map, slice_index, slice_index_or, IfOk, OnOk, MatchOption, ◌<◌, string_bytes, option_copied};
 ghost use Rattle.std.specs.List.{prefix_len};
 ghost use Rattle.mt_text_spec.specs.Registries.{attr_names, kind_names, kind_attrs};
+ghost use Rattle.mt_text_spec.specs.Queries.{TokenTest};
+ghost use Rattle.mt_query_spec.specs.Trees as tree;
 ghost use Rattle.mt_query_spec.specs.Printed as spec;
 ghost use Rattle.mt_cql.specs.Shape.{test_shape, shape, kind_shape, filters_shape, cond_seen, query_seen};
 ghost use Rattle.mt_cql.specs.Texts.{falls, stays};
@@ -266,6 +268,22 @@ fn add_turns(alloc: Global, out: &mut String, least: u32, most: u32) -> Result<(
     add(out, "}")
 }
 
+/// Adds a token's label and test.
+fn add_token(
+    alloc: Global,
+    out: &mut String,
+    registry: &Registry,
+    label: u8,
+    test: &Test,
+) -> Result<(), NoMemory>
+    ensures { OnOk result (string_bytes out.new ≡ string_bytes out.old ++ spec.printed_expr registry.now tree.Atom (TokenTest label (test_shape test.now))) }
+{
+    add_label(alloc, out, label)?;
+    add(out, "[")?;
+    add_test(out, registry, None, TestRank::Whole, test)?;
+    add(out, "]")
+}
+
 /// Adds an expression where one of this rank is wanted.
 fn add_expr(
     alloc: Global,
@@ -277,12 +295,7 @@ fn add_expr(
     ensures { OnOk result (string_bytes out.new ≡ string_bytes out.old ++ spec.printed_expr registry.now (rank_seen rank) (shape expr.now)) }
 {
     match expr {
-        Expr::Token { label, test } => {
-            add_label(alloc, out, *label)?;
-            add(out, "[")?;
-            add_test(out, registry, None, TestRank::Whole, test)?;
-            add(out, "]")
-        }
+        Expr::Token { label, test } => add_token(alloc, out, registry, *label, test),
         Expr::Begin { kind, test } => {
             add_tag(out, registry, *kind, test)?;
             add(out, ">")

@@ -36,46 +36,33 @@ fn nested(before: Nesting, b: u8) -> Nesting
     ensures behind { nesting_seen result ≡ tokens.nested (nesting_seen before) b }
     ensures few { result.opened ≤ before.opened + 1 }
 {
-    let Nesting {
-        opened,
-        most,
-        in_string,
-        taken,
-    } = before;
-    if in_string {
-        if taken {
+    if before.in_string {
+        if before.taken {
             return Nesting {
-                opened,
-                most,
-                in_string,
                 taken: false,
+                ..before
             };
         }
         return Nesting {
-            opened,
-            most,
             in_string: b != b'"',
             taken: b == b'\\',
+            ..before
         };
     }
     match b {
         b'"' => Nesting {
-            opened,
-            most,
             in_string: true,
             taken: false,
+            ..before
         },
         b'(' => Nesting {
-            opened: opened + 1,
-            most: most.max(opened + 1),
-            in_string,
-            taken,
+            opened: before.opened + 1,
+            most: before.most.max(before.opened + 1),
+            ..before
         },
         b')' => Nesting {
-            opened: opened.saturating_sub(1),
-            most,
-            in_string,
-            taken,
+            opened: before.opened.saturating_sub(1),
+            ..before
         },
         _ => before,
     }
