@@ -6,8 +6,8 @@ use Rattle.mt_query_spec.specs.Tokens as t
 use Rattle.mt_query_spec.specs.Trees as tree
 use Rattle.mt_query_spec.specs.Trees.{OfToken, OfTag, TestTree, Whole, Label, Labelled, Atom, Sequence, Choice, ExprTree, Within, Filters, FilterTree, CondTree, QueryTree}
 use Rattle.mt_cql.specs.Machine.{TestState, whole_test}
-use Rattle.mt_cql.specs.Exprs.{Counting, Opened, Least, LeastComma, Most, Condition, Started, Left, LeftDot, LeftName, Compared, Right, RightDot, Wanted, LabelRead, LabelDone, TokenOpened, InToken, TagOpened, TagNamed, InTag, ClosingOpened, ClosingNamed, AtomRead, InRepeat, ItemRead, FiltersRead, BangRead, InCond, CondRead}
-use Rattle.mt_cql.specs.Exprs.{sequence_of, choice_of, filters_of, item_read, begin_step, labelled_step, token_step, token_read, begin_read, opened_step, tag_step, named_step, tag_opened_step, closing_opened_step, closing_named_step, label_step, repeat_step, close_filters, with_operand, close_choice, asked_of, asked_filters, filtered, read_step, filters_step, bang_step, cond_step, step, run, query_of, ends, finish}
+use Rattle.mt_cql.specs.Exprs.{Counting, Opened, Least, LeastComma, Most, Started, Numbered, Dotted, Condition, Left, LeftRead, Right, Wanted, LabelRead, LabelDone, TokenOpened, InToken, TagOpened, TagNamed, InTag, ClosingOpened, ClosingNamed, AtomRead, InRepeat, ItemRead, FiltersRead, BangRead, InCond, CondRead}
+use Rattle.mt_cql.specs.Exprs.{sequence_of, choice_of, filters_of, item_read, begin_step, labelled_step, token_step, token_read, begin_read, opened_step, tag_step, named_step, tag_opened_step, closing_opened_step, closing_named_step, label_step, repeat_step, close_filters, with_operand, close_choice, asked_of, asked_filters, filtered, read_step, filters_step, bang_step, left_step, sign_step, right_step, in_cond, cond_step, step, run, query_of, ends, finish}
 use Rattle.mt_cql.proofs.Building.{tree_ways}
 use Rattle.mt_cql.proofs.TestLaws as tests
 use Rattle.mt_cql.proofs.Spelling.{TreeState, TreePlace, TreeHead, TreeGroup, TreeAsked}
@@ -142,14 +142,14 @@ unfolding run finish
 conds_close asked conds = some_close _ [] (record { end = CondRead asked conds; query = query_of tree_ways asked conds; runs = refl; is = refl })
 
 cond_close : (asked : TreeAsked) (conds : List CondTree) (cond : Condition) → Closes (InCond asked conds cond)
-unfolding step cond_step run finish
-cond_close asked conds (RightDot at n name_at name equal right_at right) = then_close _ _ (Word 0 []) refl (conds_close asked _)
-cond_close asked conds (Right at n name_at name equal right_at right) = run_close _ _ (Mark t.Dot ∷ Word 0 [] ∷ []) refl (conds_close asked _)
-cond_close asked conds (Compared at n name_at name equal) = run_close _ _ (Number 0 0 ∷ Mark t.Dot ∷ Word 0 [] ∷ []) refl (conds_close asked _)
-cond_close asked conds (LeftName at n name_at name) = run_close _ _ (Mark t.Is ∷ Number 0 0 ∷ Mark t.Dot ∷ Word 0 [] ∷ []) refl (conds_close asked _)
-cond_close asked conds (LeftDot at n) = run_close _ _ (Word 0 [] ∷ Mark t.Is ∷ Number 0 0 ∷ Mark t.Dot ∷ Word 0 [] ∷ []) refl (conds_close asked _)
-cond_close asked conds (Left at n) = run_close _ _ (Mark t.Dot ∷ Word 0 [] ∷ Mark t.Is ∷ Number 0 0 ∷ Mark t.Dot ∷ Word 0 [] ∷ []) refl (conds_close asked _)
-cond_close asked conds Started = run_close _ _ (Number 0 0 ∷ Mark t.Dot ∷ Word 0 [] ∷ Mark t.Is ∷ Number 0 0 ∷ Mark t.Dot ∷ Word 0 [] ∷ []) refl (conds_close asked _)
+unfolding step cond_step in_cond left_step sign_step right_step run finish
+cond_close asked conds (Right left equal (Dotted at number)) = then_close _ _ (Word 0 []) refl (conds_close asked _)
+cond_close asked conds (Right left equal (Numbered at number)) = run_close _ _ (Mark t.Dot ∷ Word 0 [] ∷ []) refl (conds_close asked _)
+cond_close asked conds (Right left equal Started) = run_close _ _ (Number 0 0 ∷ Mark t.Dot ∷ Word 0 [] ∷ []) refl (conds_close asked _)
+cond_close asked conds (LeftRead left) = run_close _ _ (Mark t.Is ∷ Number 0 0 ∷ Mark t.Dot ∷ Word 0 [] ∷ []) refl (conds_close asked _)
+cond_close asked conds (Left (Dotted at number)) = run_close _ _ (Word 0 [] ∷ Mark t.Is ∷ Number 0 0 ∷ Mark t.Dot ∷ Word 0 [] ∷ []) refl (conds_close asked _)
+cond_close asked conds (Left (Numbered at number)) = run_close _ _ (Mark t.Dot ∷ Word 0 [] ∷ Mark t.Is ∷ Number 0 0 ∷ Mark t.Dot ∷ Word 0 [] ∷ []) refl (conds_close asked _)
+cond_close asked conds (Left Started) = run_close _ _ (Number 0 0 ∷ Mark t.Dot ∷ Word 0 [] ∷ Mark t.Is ∷ Number 0 0 ∷ Mark t.Dot ∷ Word 0 [] ∷ []) refl (conds_close asked _)
 
 bang_close : (asked : TreeAsked) (heads : List TreeHead) → Closes (BangRead asked heads)
 unfolding step bang_step filtered

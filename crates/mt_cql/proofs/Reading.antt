@@ -6,8 +6,8 @@ use Rattle.mt_query_spec.specs.Tokens as t
 use Rattle.mt_query_spec.specs.Trees as tree
 use Rattle.mt_query_spec.specs.Trees.{Tested, OfToken, OfTag, TestTree, TestRank, Unary, Conjunction, Whole, Label, NoLabel, Labelled, Repetition, Rank, Atom, Item, Sequence, Choice, ExprTree, Op, Within, NotWithin, Containing, NotContaining, Filtered, Operand, Filters, FilterTree, CondTree, QueryTree, test_tokens, maybe_tokens, label_tokens, repetition_tokens, expr_tokens, op_tokens, filter_tokens, equality_sign, cond_tokens, conds_tokens, query_tokens}
 use Rattle.mt_cql.specs.Machine.{and_then, TestState, test_start, test_step, test_run, whole_test, want_step, named_step as test_named_step, compares_step, have_step}
-use Rattle.mt_cql.specs.Exprs.{Around, Started, Wanted, LabelRead, LabelDone, TokenOpened, InToken, TagOpened, TagNamed, InTag, ClosingOpened, ClosingNamed, AtomRead, ItemRead, FiltersRead, BangRead, InCond, CondRead, op_of, opened_operand}
-use Rattle.mt_cql.specs.Exprs.{start, sequence_of, choice_of, filters_of, item_read, begin_step, labelled_step, in_token, token_read, token_step, opened_step, in_tag, begin_read, whole_read, tag_step, named_step, tag_opened_step, closing_opened_step, closing_named_step, label_step, repeat_step, close_filters, with_operand, close_choice, before_op, asked_of, asked_filters, bang, filtered, cond_begins, read_step, atom_step, filters_step, bang_step, cond_step, conds_step, step, run, query_of, ends, finish}
+use Rattle.mt_cql.specs.Exprs.{Around, Started, Left, Wanted, LabelRead, LabelDone, TokenOpened, InToken, TagOpened, TagNamed, InTag, ClosingOpened, ClosingNamed, AtomRead, ItemRead, FiltersRead, BangRead, InCond, CondRead, op_of, opened_operand}
+use Rattle.mt_cql.specs.Exprs.{start, sequence_of, choice_of, filters_of, item_read, begin_step, labelled_step, in_token, token_read, token_step, opened_step, in_tag, begin_read, whole_read, tag_step, named_step, tag_opened_step, closing_opened_step, closing_named_step, label_step, repeat_step, close_filters, with_operand, close_choice, before_op, asked_of, asked_filters, bang, filtered, cond_begins, read_step, atom_step, filters_step, bang_step, left_step, sign_step, right_step, in_cond, cond_step, conds_step, step, run, query_of, ends, finish}
 use Rattle.mt_cql.proofs.Building.{tree_ways}
 use Rattle.mt_cql.proofs.TestLaws.{test_reads}
 use Rattle.mt_cql.proofs.Spelling.{TreeState, TreePlace, TreeHead, TreeAsked}
@@ -520,7 +520,7 @@ filter_goes (tree.More filters op operand) = λ state choice heads may.
 
 -- at a state this is asked, with these conditions
 pub record HasAsked (state : TreeState) (asked : TreeAsked) (conds : List CondTree) : Type 0 where
-  pub goes : step tree_ways state (Mark t.And) ≡ Some (InCond asked conds Started)
+  pub goes : step tree_ways state (Mark t.And) ≡ Some (InCond asked conds (Left Started))
   pub ends : finish tree_ways state ≡ Some (query_of tree_ways asked conds)
 
 pub record CondsGo (state : TreeState) (asked : TreeAsked) (conds : List CondTree) (tokens : List Token) : Type 0 where
@@ -532,11 +532,11 @@ cond_rest : CondTree → List Token
 cond_rest c = Number c.left_at c.left ∷ Mark t.Dot ∷ Word c.left_name_at c.left_name ∷ Mark (equality_sign c.equal) ∷ Number c.right_at c.right ∷ Mark t.Dot
     ∷ Word c.right_name_at c.right_name ∷ []
 
-cond_goes : (asked : TreeAsked) (conds : List CondTree) (c : CondTree) → run tree_ways (InCond asked conds Started) (cond_rest c) ≡ Some (CondRead asked (conds ++ c ∷ []))
-unfolding run step cond_step cond_rest
+cond_goes : (asked : TreeAsked) (conds : List CondTree) (c : CondTree) → run tree_ways (InCond asked conds (Left Started)) (cond_rest c) ≡ Some (CondRead asked (conds ++ c ∷ []))
+unfolding run step cond_step in_cond left_step sign_step right_step cond_rest
 cond_goes asked conds c = go c.equal refl
   where
-    go : (equal : Bool) → c.equal ≡ equal → run tree_ways (InCond asked conds Started) (Number c.left_at c.left ∷ Mark t.Dot ∷ Word c.left_name_at c.left_name ∷ Mark (equality_sign c.equal) ∷ Number c.right_at c.right ∷ Mark t.Dot
+    go : (equal : Bool) → c.equal ≡ equal → run tree_ways (InCond asked conds (Left Started)) (Number c.left_at c.left ∷ Mark t.Dot ∷ Word c.left_name_at c.left_name ∷ Mark (equality_sign c.equal) ∷ Number c.right_at c.right ∷ Mark t.Dot
         ∷ Word c.right_name_at c.right_name ∷ []) ≡ Some (CondRead asked (conds ++ c ∷ []))
     go true e = rw e refl
     go false e = rw e refl
@@ -552,8 +552,8 @@ conds_go (c ∷ cs) state asked before has =
     let r = conds_go cs (CondRead asked (before ++ c ∷ [])) asked (before ++ c ∷ []) (cond_has asked (before ++ c ∷ [])) in
     record {
       end = r.end;
-      runs = one_run state (InCond asked before Started) (Mark t.And) (cond_rest c ++ conds_tokens cs) _ has.goes
-          (then_run (InCond asked before Started) (CondRead asked (before ++ c ∷ [])) (cond_rest c) (conds_tokens cs) _ (cond_goes asked before c) r.runs);
+      runs = one_run state (InCond asked before (Left Started)) (Mark t.And) (cond_rest c ++ conds_tokens cs) _ has.goes
+          (then_run (InCond asked before (Left Started)) (CondRead asked (before ++ c ∷ [])) (cond_rest c) (conds_tokens cs) _ (cond_goes asked before c) r.runs);
       read = rw (append_assoc before (c ∷ []) cs) at r.read;
     }
 
@@ -563,7 +563,7 @@ head_asked : (state : TreeState) (sequence : ExprTree Sequence) (branches : Opti
     → HasRead state sequence branches (record { groups = []; heads = [] }) → choice_of tree_ways branches sequence ≡ choice → HasAsked state (record { choice = choice; filters = None }) []
 unfolding read_step asked_of cond_begins finish ends
 head_asked state sequence branches choice read is = record {
-  goes = read.goes (Mark t.And) refl ∙ ap (λ c. Some (InCond (record { choice = c; filters = None }) [] Started)) is;
+  goes = read.goes (Mark t.And) refl ∙ ap (λ c. Some (InCond (record { choice = c; filters = None }) [] (Left Started))) is;
   ends = read.ends ∙ ap (λ c. Some (tree.Asks c [])) is;
 }
 

@@ -8,8 +8,8 @@ use Rattle.mt_query_spec.specs.Tokens as t
 use Rattle.mt_query_spec.specs.Trees as tree
 use Rattle.mt_query_spec.specs.Trees.{Tested, OfToken, OfTag, TestTree, TestRank, Unary, Conjunction, Whole, Label, NoLabel, Labelled, Repetition, Rank, Atom, Item, Sequence, Choice, ExprTree, Op, Within, NotWithin, Containing, NotContaining, Filtered, Operand, Filters, FilterTree, CondTree, QueryTree, test_tokens, maybe_tokens, label_tokens, repetition_tokens, expr_tokens, op_tokens, filter_tokens, equality_sign, cond_tokens, conds_tokens, query_tokens}
 use Rattle.mt_cql.specs.Machine.{and_then, TestState, test_start, test_step}
-use Rattle.mt_cql.specs.Exprs.{Group, Head, Around, Place, Counting, Opened, Least, LeastComma, Most, Condition, Started, Left, LeftDot, LeftName, Compared, Right, RightDot, Asked, State, Wanted, LabelRead, LabelDone, TokenOpened, InToken, TagOpened, TagNamed, InTag, ClosingOpened, ClosingNamed, AtomRead, InRepeat, ItemRead, FiltersRead, BangRead, InCond, CondRead, op_of, not_op_of, opened_operand}
-use Rattle.mt_cql.specs.Exprs.{sequence_of, choice_of, filters_of, item_read, begin_step, labelled_step, in_token, token_read, token_step, opened_step, in_tag, begin_read, whole_read, tag_step, named_step, tag_opened_step, closing_opened_step, closing_named_step, label_step, repeat_step, close_filters, with_operand, close_choice, before_op, asked_of, asked_filters, bang, filtered, cond_begins, read_step, atom_step, filters_step, bang_step, cond_step, conds_step, step, run, query_of, ends, finish}
+use Rattle.mt_cql.specs.Exprs.{Group, Head, Around, Place, Counting, Opened, Least, LeastComma, Most, Side, SideState, Started, Numbered, Dotted, Condition, Left, LeftRead, Right, Asked, State, Wanted, LabelRead, LabelDone, TokenOpened, InToken, TagOpened, TagNamed, InTag, ClosingOpened, ClosingNamed, AtomRead, InRepeat, ItemRead, FiltersRead, BangRead, InCond, CondRead, op_of, not_op_of, opened_operand}
+use Rattle.mt_cql.specs.Exprs.{sequence_of, choice_of, filters_of, item_read, begin_step, labelled_step, in_token, token_read, token_step, opened_step, in_tag, begin_read, whole_read, tag_step, named_step, tag_opened_step, closing_opened_step, closing_named_step, label_step, repeat_step, close_filters, with_operand, close_choice, before_op, asked_of, asked_filters, bang, filtered, cond_begins, read_step, atom_step, filters_step, bang_step, cond_tree, left_step, sign_step, right_step, in_cond, cond_step, conds_step, step, run, query_of, ends, finish}
 use Rattle.mt_cql.proofs.Building.{tree_ways}
 use Rattle.mt_cql.proofs.TestLaws.{test_spelled, token_ways, tag_ways, test_kept, whole_spelled}
 
@@ -70,14 +70,18 @@ counting_spelled (Least n_at n) = Number n_at n ∷ []
 counting_spelled (LeastComma n_at n) = Number n_at n ∷ Mark t.Comma ∷ []
 counting_spelled (Most n_at n m_at m) = Number n_at n ∷ Mark t.Comma ∷ Number m_at m ∷ []
 
+abbrev pub side_spelled : Side → List Token
+side_spelled side = Number side.at side.number ∷ Mark t.Dot ∷ Word side.name_at side.name ∷ []
+
+abbrev pub side_state_spelled : SideState → List Token
+side_state_spelled Started = []
+side_state_spelled (Numbered at number) = Number at number ∷ []
+side_state_spelled (Dotted at number) = Number at number ∷ Mark t.Dot ∷ []
+
 abbrev pub condition_spelled : Condition → List Token
-condition_spelled Started = []
-condition_spelled (Left at n) = Number at n ∷ []
-condition_spelled (LeftDot at n) = Number at n ∷ Mark t.Dot ∷ []
-condition_spelled (LeftName at n name_at name) = Number at n ∷ Mark t.Dot ∷ Word name_at name ∷ []
-condition_spelled (Compared at n name_at name equal) = Number at n ∷ Mark t.Dot ∷ Word name_at name ∷ Mark (equality_sign equal) ∷ []
-condition_spelled (Right at n name_at name equal r_at r) = Number at n ∷ Mark t.Dot ∷ Word name_at name ∷ Mark (equality_sign equal) ∷ Number r_at r ∷ []
-condition_spelled (RightDot at n name_at name equal r_at r) = Number at n ∷ Mark t.Dot ∷ Word name_at name ∷ Mark (equality_sign equal) ∷ Number r_at r ∷ Mark t.Dot ∷ []
+condition_spelled (Left side) = side_state_spelled side
+condition_spelled (LeftRead left) = side_spelled left
+condition_spelled (Right left equal right) = side_spelled left ++ Mark (equality_sign equal) ∷ side_state_spelled right
 
 abbrev pub asked_spelled : TreeAsked → List Token
 asked_spelled a = expr_tokens a.choice ++ maybe_filters a.filters
@@ -425,26 +429,16 @@ bang_read_kept asked heads _ next h = cc
 
 cond_kept : (asked : TreeAsked) (conds : List CondTree) (cond : Condition) (token : Token) (next : TreeState) → cond_step tree_ways asked conds cond token ≡ Some next
     → spelled next ≡ (asked_spelled asked ++ (conds_tokens conds ++ Mark t.And ∷ condition_spelled cond)) ++ token ∷ []
-unfolding cond_step
-cond_kept asked conds Started (Number at n) next h = at_state _ next _ h (simp append_assoc)
-cond_kept asked conds (Left at n) (Mark t.Dot) next h = at_state _ next _ h (simp append_assoc)
-cond_kept asked conds (LeftDot at n) (Word name_at name) next h = at_state _ next _ h (simp append_assoc)
-cond_kept asked conds (LeftName at n name_at name) (Mark t.Is) next h = at_state _ next _ h (simp append_assoc)
-cond_kept asked conds (LeftName at n name_at name) (Mark t.IsNot) next h = at_state _ next _ h (simp append_assoc)
-cond_kept asked conds (Compared at n name_at name equal) (Number right_at right) next h = at_state _ next _ h (simp append_assoc)
-cond_kept asked conds (Right at n name_at name equal right_at right) (Mark t.Dot) next h = at_state _ next _ h (simp append_assoc)
-cond_kept asked conds (RightDot at n name_at name equal right_at right) (Word right_name_at right_name) next h =
-    at_state _ next _ h (ap (λ x. asked_spelled asked ++ x) (conds_more conds (record {
-      left_at = at;
-      left = n;
-      left_name_at = name_at;
-      left_name = name;
-      equal = equal;
-      right_at = right_at;
-      right = right;
-      right_name_at = right_name_at;
-      right_name = right_name;
-    })) ∙ simp append_assoc)
+unfolding cond_step in_cond left_step sign_step right_step
+cond_kept asked conds (Left Started) (Number at n) next h = at_state _ next _ h (simp append_assoc)
+cond_kept asked conds (Left (Numbered at number)) (Mark t.Dot) next h = at_state _ next _ h (simp append_assoc)
+cond_kept asked conds (Left (Dotted at number)) (Word name_at name) next h = at_state _ next _ h (simp append_assoc)
+cond_kept asked conds (LeftRead left) (Mark t.Is) next h = at_state _ next _ h (simp append_assoc)
+cond_kept asked conds (LeftRead left) (Mark t.IsNot) next h = at_state _ next _ h (simp append_assoc)
+cond_kept asked conds (Right left equal Started) (Number at n) next h = at_state _ next _ h (simp append_assoc)
+cond_kept asked conds (Right left equal (Numbered at number)) (Mark t.Dot) next h = at_state _ next _ h (simp append_assoc)
+cond_kept asked conds (Right left equal (Dotted at number)) (Word name_at name) next h =
+    at_state _ next _ h (ap (λ x. asked_spelled asked ++ x) (conds_more conds (cond_tree left equal (record { at = at; number = number; name_at = name_at; name = name }))) ∙ simp append_assoc)
 cond_kept asked conds cond _ next h = cc
 
 conds_kept : (asked : TreeAsked) (conds : List CondTree) (token : Token) (next : TreeState) → conds_step tree_ways asked conds token ≡ Some next

@@ -9,8 +9,8 @@ use Rattle.mt_query_spec.specs.Meaning.{attrs_of_kind}
 use Rattle.mt_query_spec.specs.Verdicts.{verdict}
 use Rattle.mt_cql.specs.Machine.{and_then, TestState, test_step, test_start, whole_test}
 use Rattle.mt_cql.specs.Parts.{TestParts, Parts, FilterParts, CondsPart, part_ways}
-use Rattle.mt_cql.specs.Exprs.{Group, Head, Around, Place, Counting, Opened, Least, LeastComma, Most, Condition, Started, Left, LeftDot, LeftName, Compared, Right, RightDot, Asked, State, Wanted, LabelRead, LabelDone, TokenOpened, InToken, TagOpened, TagNamed, InTag, ClosingOpened, ClosingNamed, AtomRead, InRepeat, ItemRead, FiltersRead, BangRead, InCond, CondRead, op_of, not_op_of, opened_operand}
-use Rattle.mt_cql.specs.Exprs.{sequence_of, choice_of, filters_of, item_read, begin_step, labelled_step, in_token, token_read, token_step, opened_step, in_tag, begin_read, whole_read, tag_step, named_step, tag_opened_step, closing_opened_step, closing_named_step, label_step, repeat_step, close_filters, with_operand, close_choice, before_op, asked_of, asked_filters, bang, filtered, cond_begins, read_step, atom_step, filters_step, bang_step, cond_step, conds_step, step, run, query_of, ends, finish}
+use Rattle.mt_cql.specs.Exprs.{Group, Head, Around, Place, Counting, Opened, Least, LeastComma, Most, Condition, Left, LeftRead, Right, Dotted, Asked, State, Wanted, LabelRead, LabelDone, TokenOpened, InToken, TagOpened, TagNamed, InTag, ClosingOpened, ClosingNamed, AtomRead, InRepeat, ItemRead, FiltersRead, BangRead, InCond, CondRead, op_of, not_op_of, opened_operand}
+use Rattle.mt_cql.specs.Exprs.{sequence_of, choice_of, filters_of, item_read, begin_step, labelled_step, in_token, token_read, token_step, opened_step, in_tag, begin_read, whole_read, tag_step, named_step, tag_opened_step, closing_opened_step, closing_named_step, label_step, repeat_step, close_filters, with_operand, close_choice, before_op, asked_of, asked_filters, bang, filtered, cond_begins, read_step, atom_step, filters_step, bang_step, cond_tree, left_step, sign_step, right_step, in_cond, cond_step, conds_step, step, run, query_of, ends, finish}
 use Rattle.mt_cql.proofs.Building.{tree_ways}
 use Rattle.mt_cql.proofs.Spelling.{TreeState, TreePlace, TreeHead, TreeGroup, TreeAsked}
 use Rattle.mt_cql.proofs.Reading.{TreeAround}
@@ -339,29 +339,20 @@ module _ (registry : Registry) (default : ℕ) where
   bang_step_seen asked heads (Word at name) = filtered_seen (not_op_of at name) (Some (asked, heads))
   bang_step_seen asked heads _ = refl
 
+  in_cond_seen : (asked : TreeAsked) (conds : List CondTree) (cond : Option Condition)
+      → Alike (in_cond (part_ways registry default) (seen_asked asked) (conds_of registry asked.choice conds) cond) (in_cond tree_ways asked conds cond)
+  unfolding in_cond
+  in_cond_seen asked conds None = refl
+  in_cond_seen asked conds (Some cond) = refl
+
   cond_seen : (asked : TreeAsked) (conds : List CondTree) (cond : Condition) (token : Token)
       → Alike (cond_step (part_ways registry default) (seen_asked asked) (conds_of registry asked.choice conds) cond token) (cond_step tree_ways asked conds cond token)
   unfolding cond_step
-  cond_seen asked conds Started (Number at n) = refl
-  cond_seen asked conds (Left at n) (Mark t.Dot) = refl
-  cond_seen asked conds (LeftDot at n) (Word name_at name) = refl
-  cond_seen asked conds (LeftName at n name_at name) (Mark t.Is) = refl
-  cond_seen asked conds (LeftName at n name_at name) (Mark t.IsNot) = refl
-  cond_seen asked conds (Compared at n name_at name equal) (Number right_at right) = refl
-  cond_seen asked conds (Right at n name_at name equal right_at right) (Mark t.Dot) = refl
-  cond_seen asked conds (RightDot at n name_at name equal right_at right) (Word right_name_at right_name) =
-      ap (λ c. Some (CondRead (seen_asked asked) c)) (cond_same registry default asked.choice conds (record {
-        left_at = at;
-        left = n;
-        left_name_at = name_at;
-        left_name = name;
-        equal = equal;
-        right_at = right_at;
-        right = right;
-        right_name_at = right_name_at;
-        right_name = right_name;
-      }))
-  cond_seen asked conds cond _ = refl
+  cond_seen asked conds (Left side) token = in_cond_seen asked conds (left_step side token)
+  cond_seen asked conds (LeftRead left) token = in_cond_seen asked conds (sign_step left token)
+  cond_seen asked conds (Right left equal (Dotted at number)) (Word name_at name) =
+      ap (λ c. Some (CondRead (seen_asked asked) c)) (cond_same registry default asked.choice conds (cond_tree left equal (record { at = at; number = number; name_at = name_at; name = name })))
+  cond_seen asked conds (Right left equal right) token = in_cond_seen asked conds (right_step left equal right token)
 
   conds_seen : (asked : TreeAsked) (conds : List CondTree) (token : Token)
       → Alike (conds_step (part_ways registry default) (seen_asked asked) (conds_of registry asked.choice conds) token) (conds_step tree_ways asked conds token)

@@ -60,15 +60,56 @@ pub data Counting : Type 0 where
   LeastComma : (n_at n : ℕ) → Counting
   Most : (n_at n m_at m : ℕ) → Counting
 
--- what of a condition is read behind its `&`
+-- a side of a condition: a label, and the name of an attribute
+pub record Side : Type 0 where
+  pub at : ℕ
+  pub number : ℕ
+  pub name_at : ℕ
+  pub name : List ℕ
+
+-- what of a side is read: nothing, its label, or the dot behind that
+pub data SideState : Type 0 where
+  Started : SideState
+  Numbered : (at number : ℕ) → SideState
+  Dotted : (at number : ℕ) → SideState
+
+-- what of a condition is read behind its `&`: some of its left side, all of that, or that with the sign and some of its right side
 pub data Condition : Type 0 where
-  Started : Condition
-  Left : (at n : ℕ) → Condition
-  LeftDot : (at n : ℕ) → Condition
-  LeftName : (at n name_at : ℕ) (name : List ℕ) → Condition
-  Compared : (at n name_at : ℕ) (name : List ℕ) (equal : Bool) → Condition
-  Right : (at n name_at : ℕ) (name : List ℕ) (equal : Bool) (right_at right : ℕ) → Condition
-  RightDot : (at n name_at : ℕ) (name : List ℕ) (equal : Bool) (right_at right : ℕ) → Condition
+  Left : (side : SideState) → Condition
+  LeftRead : (left : Side) → Condition
+  Right : (left : Side) (equal : Bool) (right : SideState) → Condition
+
+abbrev pub cond_tree : Side → (equal : Bool) → Side → CondTree
+cond_tree left equal right = record {
+  left_at = left.at;
+  left = left.number;
+  left_name_at = left.name_at;
+  left_name = left.name;
+  equal = equal;
+  right_at = right.at;
+  right = right.number;
+  right_name_at = right.name_at;
+  right_name = right.name;
+}
+
+-- the next token of the left side of a condition
+unfoldable pub left_step : SideState → Token → Option Condition
+left_step Started (Number at number) = Some (Left (Numbered at number))
+left_step (Numbered at number) (Mark t.Dot) = Some (Left (Dotted at number))
+left_step (Dotted at number) (Word name_at name) = Some (LeftRead (record { at = at; number = number; name_at = name_at; name = name }))
+left_step side _ = None
+
+-- the sign behind it
+unfoldable pub sign_step : Side → Token → Option Condition
+sign_step left (Mark t.Is) = Some (Right left true Started)
+sign_step left (Mark t.IsNot) = Some (Right left false Started)
+sign_step left _ = None
+
+-- the next token of the right side, before its name
+unfoldable pub right_step : Side → (equal : Bool) → SideState → Token → Option Condition
+right_step left equal Started (Number at number) = Some (Right left equal (Numbered at number))
+right_step left equal (Numbered at number) (Mark t.Dot) = Some (Right left equal (Dotted at number))
+right_step left equal right _ = None
 
 -- the head of a query and its filters
 pub record Asked (X : Rank → Type 0) (F : Filtered → Type 0) : Type 0 where
@@ -256,7 +297,7 @@ module _ {Y : Tested → TestRank → Type 0} {X : Rank → Type 0} {F : Filtere
 
   unfoldable pub cond_begins : Option (Asked X F) → C → Option (State Y X F C)
   cond_begins None conds = None
-  cond_begins (Some asked) conds = Some (InCond asked conds Started)
+  cond_begins (Some asked) conds = Some (InCond asked conds (Left Started))
 
   -- a choice could end here, or go on
   unfoldable pub read_step : X Sequence → Option (X Choice) → Around X F → Token → Option (State Y X F C)
@@ -286,29 +327,20 @@ module _ {Y : Tested → TestRank → Type 0} {X : Rank → Type 0} {F : Filtere
   bang_step asked heads (Word at name) = filtered (not_op_of at name) (Some (asked, heads))
   bang_step asked heads _ = None
 
+  -- what of a condition is read then, where it goes on
+  unfoldable pub in_cond : Asked X F → C → Option Condition → Option (State Y X F C)
+  in_cond asked conds None = None
+  in_cond asked conds (Some cond) = Some (InCond asked conds cond)
+
   unfoldable pub cond_step : Asked X F → C → Condition → Token → Option (State Y X F C)
-  cond_step asked conds Started (Number at n) = Some (InCond asked conds (Left at n))
-  cond_step asked conds (Left at n) (Mark t.Dot) = Some (InCond asked conds (LeftDot at n))
-  cond_step asked conds (LeftDot at n) (Word name_at name) = Some (InCond asked conds (LeftName at n name_at name))
-  cond_step asked conds (LeftName at n name_at name) (Mark t.Is) = Some (InCond asked conds (Compared at n name_at name true))
-  cond_step asked conds (LeftName at n name_at name) (Mark t.IsNot) = Some (InCond asked conds (Compared at n name_at name false))
-  cond_step asked conds (Compared at n name_at name equal) (Number right_at right) = Some (InCond asked conds (Right at n name_at name equal right_at right))
-  cond_step asked conds (Right at n name_at name equal right_at right) (Mark t.Dot) = Some (InCond asked conds (RightDot at n name_at name equal right_at right))
-  cond_step asked conds (RightDot at n name_at name equal right_at right) (Word right_name_at right_name) = Some (CondRead asked (ways.cond asked.choice conds (record {
-    left_at = at;
-    left = n;
-    left_name_at = name_at;
-    left_name = name;
-    equal = equal;
-    right_at = right_at;
-    right = right;
-    right_name_at = right_name_at;
-    right_name = right_name;
-  })))
-  cond_step asked conds cond _ = None
+  cond_step asked conds (Left side) token = in_cond asked conds (left_step side token)
+  cond_step asked conds (LeftRead left) token = in_cond asked conds (sign_step left token)
+  cond_step asked conds (Right left equal (Dotted at number)) (Word name_at name) =
+      Some (CondRead asked (ways.cond asked.choice conds (cond_tree left equal (record { at = at; number = number; name_at = name_at; name = name }))))
+  cond_step asked conds (Right left equal right) token = in_cond asked conds (right_step left equal right token)
 
   unfoldable pub conds_step : Asked X F → C → Token → Option (State Y X F C)
-  conds_step asked conds (Mark t.And) = Some (InCond asked conds Started)
+  conds_step asked conds (Mark t.And) = Some (InCond asked conds (Left Started))
   conds_step asked conds _ = None
 
   -- the next token of a query; None where no query goes on so

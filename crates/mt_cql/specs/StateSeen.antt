@@ -17,6 +17,9 @@ use Rattle.mt_cql.specs.declared.state.Around.{Around}
 use Rattle.mt_cql.specs.declared.state.Place.{Place}
 use Rattle.mt_cql.specs.declared.state.Counting.{Counting}
 use Rattle.mt_cql.specs.declared.state.Counting.TheVariants as counting
+use Rattle.mt_cql.specs.declared.state.Side.{Side}
+use Rattle.mt_cql.specs.declared.state.SideState.{SideState}
+use Rattle.mt_cql.specs.declared.state.SideState.TheVariants as side_state
 use Rattle.mt_cql.specs.declared.state.Condition.{Condition}
 use Rattle.mt_cql.specs.declared.state.Condition.TheVariants as condition
 use Rattle.mt_cql.specs.declared.state.Asked.{Asked}
@@ -68,28 +71,26 @@ counting_seen (counting.Least n_at n) = e.Least n_at n
 counting_seen (counting.LeastComma n_at n) = e.LeastComma n_at n
 counting_seen (counting.Most n_at n m_at m) = e.Most n_at n m_at m
 
+abbrev pub side_seen : Side → e.Side
+side_seen side = record { at = side.at; number = side.number; name_at = side.name_at; name = side.name.now }
+
+abbrev pub side_state_seen : SideState → e.SideState
+side_state_seen side_state.Started = e.Started
+side_state_seen (side_state.Numbered at number) = e.Numbered at number
+side_state_seen (side_state.Dotted at number) = e.Dotted at number
+
 abbrev pub condition_seen : Condition → e.Condition
-condition_seen condition.Started = e.Started
-condition_seen (condition.Left at number) = e.Left at number
-condition_seen (condition.LeftDot at number) = e.LeftDot at number
-condition_seen (condition.LeftName left) = e.LeftName left.at left.number left.name_at left.name.now
-condition_seen (condition.Compared left equal) = e.Compared left.at left.number left.name_at left.name.now equal
-condition_seen (condition.Right left equal at number) = e.Right left.at left.number left.name_at left.name.now equal at number
-condition_seen (condition.RightDot left equal at number) = e.RightDot left.at left.number left.name_at left.name.now equal at number
+condition_seen (condition.Left side) = e.Left (side_state_seen side)
+condition_seen (condition.LeftRead left) = e.LeftRead (side_seen left)
+condition_seen (condition.Right left equal right) = e.Right (side_seen left) equal (side_state_seen right)
+
+abbrev pub maybe_condition_seen : Option Condition → Option e.Condition
+maybe_condition_seen None = None
+maybe_condition_seen (Some cond) = Some (condition_seen cond)
 
 -- a condition that was read
 abbrev pub cond_tree_seen : Written → tree.CondTree
-cond_tree_seen written = record {
-  left_at = written.left.at;
-  left = written.left.number;
-  left_name_at = written.left.name_at;
-  left_name = written.left.name.now;
-  equal = written.equal;
-  right_at = written.right.at;
-  right = written.right.number;
-  right_name_at = written.right.name_at;
-  right_name = written.right.name.now;
-}
+cond_tree_seen written = e.cond_tree (side_seen written.left) written.equal (side_seen written.right)
 
 abbrev pub asked_seen : Asked → e.Asked p.Parts p.FilterParts
 asked_seen asked = record { choice = part_seen asked.choice; filters = maybe_filters_seen asked.filters }
@@ -114,10 +115,10 @@ state_seen (state.LabelDone at number place) = e.LabelDone at number (place_seen
 state_seen (state.TokenOpened label place) = e.TokenOpened (label_seen label) (place_seen place)
 state_seen (state.InToken label test place) = e.InToken (label_seen label) (test_state_seen test) (place_seen place)
 state_seen (state.TagOpened place) = e.TagOpened (place_seen place)
-state_seen (state.TagNamed at name place) = e.TagNamed at name.now (place_seen place)
-state_seen (state.InTag at name test place) = e.InTag at name.now (test_state_seen test) (place_seen place)
+state_seen (state.TagNamed tag place) = e.TagNamed tag.at tag.name.now (place_seen place)
+state_seen (state.InTag tag test place) = e.InTag tag.at tag.name.now (test_state_seen test) (place_seen place)
 state_seen (state.ClosingOpened place) = e.ClosingOpened (place_seen place)
-state_seen (state.ClosingNamed at name place) = e.ClosingNamed at name.now (place_seen place)
+state_seen (state.ClosingNamed tag place) = e.ClosingNamed tag.at tag.name.now (place_seen place)
 state_seen (state.AtomRead atom place) = e.AtomRead (part_seen atom) (place_seen place)
 state_seen (state.InRepeat atom at counting place) = e.InRepeat (part_seen atom) at (counting_seen counting) (place_seen place)
 state_seen (state.ItemRead sequence branches around) = e.ItemRead (part_seen sequence) (maybe_part_seen branches) (around_seen around)

@@ -11,7 +11,7 @@ use super::join_reader::{not_op_of, op_of};
 use super::parts::{FiltersPart, Part};
 use super::reader::Reader;
 use super::stack::Stack;
-use super::state::{Around, Asked, Condition, Counting, Group, Head, Op, Place, State};
+use super::state::{Around, Asked, Condition, Counting, Group, Head, Op, Place, SideState, State};
 use super::token::{Sign, Token};
 use mt_base::NoMemory;
 
@@ -137,7 +137,7 @@ impl<'a> Reader<'a> {
             Some(asked) => Some(State::InCond {
                 asked,
                 conds: no_conds(self.alloc),
-                cond: Condition::Started,
+                cond: Condition::Left(SideState::Started),
             }),
         }
     }

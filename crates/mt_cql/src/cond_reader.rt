@@ -5,14 +5,77 @@ ghost use Rattle.mt_text_spec.specs.Registries.{ValidRegistry};
 ghost use Rattle.mt_cql.specs.Exprs as exprs;
 ghost use Rattle.mt_cql.specs.Seen.{token_seen};
 ghost use Rattle.mt_cql.specs.Shape.{conds_seen};
-ghost use Rattle.mt_cql.specs.StateSeen.{ways, asked_seen, condition_seen, cond_tree_seen, maybe_state_seen};
+ghost use Rattle.mt_cql.specs.StateSeen.{ways, asked_seen, side_seen, side_state_seen, condition_seen, maybe_condition_seen, cond_tree_seen, maybe_state_seen};
 
 use super::conds::{Written, one_more};
 use super::parts::CondsPart;
 use super::reader::Reader;
-use super::state::{Asked, Condition, Side, State};
+use super::state::{Asked, Condition, Side, SideState, State};
 use super::token::{Sign, Token};
 use mt_base::NoMemory;
+
+/// The next token of the left side of a condition.
+#[tactic(auto, unfolding(crate::specs::Exprs::left_step))]
+fn left_step<'a>(side: SideState, token: Token<'a>) -> Option<Condition<'a>>
+    ensures { maybe_condition_seen result ≡ exprs.left_step (side_state_seen side) (token_seen token.entry) }
+{
+    match (side, token) {
+        (SideState::Started, Token::Number { at, value }) => {
+            Some(Condition::Left(SideState::Numbered { at, number: value }))
+        }
+        (SideState::Numbered { at, number }, Token::Mark(Sign::Dot)) => {
+            Some(Condition::Left(SideState::Dotted { at, number }))
+        }
+        (SideState::Dotted { at, number }, Token::Word { at: name_at, name }) => {
+            Some(Condition::LeftRead(Side {
+                at,
+                number,
+                name_at,
+                name,
+            }))
+        }
+        _ => None,
+    }
+}
+
+/// The sign between the sides of a condition.
+#[tactic(auto, unfolding(crate::specs::Exprs::sign_step))]
+fn sign_step<'a>(left: Side<'a>, token: Token<'a>) -> Option<Condition<'a>>
+    ensures { maybe_condition_seen result ≡ exprs.sign_step (side_seen left.entry) (token_seen token.entry) }
+{
+    let equal = match token {
+        Token::Mark(Sign::Is) => true,
+        Token::Mark(Sign::IsNot) => false,
+        _ => return None,
+    };
+    Some(Condition::Right {
+        left,
+        equal,
+        right: SideState::Started,
+    })
+}
+
+/// The next token of the right side of a condition, before its name.
+#[tactic(auto, unfolding(crate::specs::Exprs::right_step))]
+fn right_step<'a>(
+    left: Side<'a>,
+    equal: bool,
+    right: SideState,
+    token: Token<'a>,
+) -> Option<Condition<'a>>
+    ensures { maybe_condition_seen result ≡ exprs.right_step (side_seen left.entry) equal (side_state_seen right) (token_seen token.entry) }
+{
+    let right = match (right, token) {
+        (SideState::Started, Token::Number { at, value }) => {
+            SideState::Numbered { at, number: value }
+        }
+        (SideState::Numbered { at, number }, Token::Mark(Sign::Dot)) => {
+            SideState::Dotted { at, number }
+        }
+        _ => return None,
+    };
+    Some(Condition::Right { left, equal, right })
+}
 
 impl<'a> Reader<'a> {
     /// A condition is read.
@@ -32,6 +95,26 @@ impl<'a> Reader<'a> {
         }
     }
 
+    /// What of a condition is read then, where it goes on.
+    #[tactic(auto, unfolding(crate::specs::Exprs::in_cond))]
+    fn in_cond(
+        &self,
+        asked: Asked,
+        conds: CondsPart,
+        cond: Option<Condition<'a>>,
+    ) -> Option<State<'a>>
+        ensures { maybe_state_seen result ≡ exprs.in_cond (ways self.now) (asked_seen asked) (conds_seen conds) (maybe_condition_seen cond.entry) }
+    {
+        match cond {
+            None => {
+                drop(asked);
+                drop(conds);
+                None
+            }
+            Some(cond) => Some(State::InCond { asked, conds, cond }),
+        }
+    }
+
     /// The next token of a condition.
     #[tactic(auto, unfolding(crate::specs::Exprs::cond_step))]
     pub fn cond_step(
@@ -45,73 +128,24 @@ impl<'a> Reader<'a> {
         ensures { IfOk result (λ next. maybe_state_seen next
             ≡ exprs.cond_step (ways self.now) (asked_seen asked) (conds_seen conds) (condition_seen cond.entry) (token_seen token.entry)) }
     {
-        let cond = match (cond, token) {
-            (Condition::Started, Token::Number { at, value }) => {
-                Condition::Left { at, number: value }
-            }
-            (Condition::Left { at, number }, Token::Mark(Sign::Dot)) => {
-                Condition::LeftDot { at, number }
-            }
-            (Condition::LeftDot { at, number }, Token::Word { at: name_at, name }) => {
-                Condition::LeftName(Side {
-                    at,
-                    number,
-                    name_at,
-                    name,
-                })
-            }
-            (Condition::LeftName(left), Token::Mark(Sign::Is)) => {
-                Condition::Compared { left, equal: true }
-            }
-            (Condition::LeftName(left), Token::Mark(Sign::IsNot)) => {
-                Condition::Compared { left, equal: false }
-            }
-            (Condition::Compared { left, equal }, Token::Number { at, value }) => {
-                Condition::Right {
-                    left,
-                    equal,
-                    at,
-                    number: value,
+        match cond {
+            Condition::Left(side) => Ok(self.in_cond(asked, conds, left_step(side, token))),
+            Condition::LeftRead(left) => Ok(self.in_cond(asked, conds, sign_step(left, token))),
+            Condition::Right { left, equal, right } => match (right, token) {
+                (SideState::Dotted { at, number }, Token::Word { at: name_at, name }) => {
+                    let right = Side {
+                        at,
+                        number,
+                        name_at,
+                        name,
+                    };
+                    self.cond_read(asked, conds, Written { left, equal, right })
                 }
-            }
-            (
-                Condition::Right {
-                    left,
-                    equal,
-                    at,
-                    number,
-                },
-                Token::Mark(Sign::Dot),
-            ) => Condition::RightDot {
-                left,
-                equal,
-                at,
-                number,
+                (right, token) => {
+                    Ok(self.in_cond(asked, conds, right_step(left, equal, right, token)))
+                }
             },
-            (
-                Condition::RightDot {
-                    left,
-                    equal,
-                    at,
-                    number,
-                },
-                Token::Word { at: name_at, name },
-            ) => {
-                let right = Side {
-                    at,
-                    number,
-                    name_at,
-                    name,
-                };
-                return self.cond_read(asked, conds, Written { left, equal, right });
-            }
-            _ => {
-                drop(asked);
-                drop(conds);
-                return Ok(None);
-            }
-        };
-        Ok(Some(State::InCond { asked, conds, cond }))
+        }
     }
 
     /// The next token behind a condition.
@@ -123,7 +157,7 @@ impl<'a> Reader<'a> {
             Token::Mark(Sign::And) => Some(State::InCond {
                 asked,
                 conds,
-                cond: Condition::Started,
+                cond: Condition::Left(SideState::Started),
             }),
             _ => {
                 drop(asked);

@@ -27,17 +27,10 @@ impl<'a> Reader<'a> {
             State::TokenOpened { label, place } => self.opened_step(label, place, token),
             State::InToken { label, test, place } => self.token_step(label, test, place, token),
             State::TagOpened { place } => Ok(self.tag_opened_step(place, token)),
-            State::TagNamed { at, name, place } => self.named_step(at, name, place, token),
-            State::InTag {
-                at,
-                name,
-                test,
-                place,
-            } => self.tag_step(at, name, test, place, token),
+            State::TagNamed { tag, place } => self.named_step(tag, place, token),
+            State::InTag { tag, test, place } => self.tag_step(tag, test, place, token),
             State::ClosingOpened { place } => Ok(self.closing_opened_step(place, token)),
-            State::ClosingNamed { at, name, place } => {
-                Ok(self.closing_named_step(at, name, place, token))
-            }
+            State::ClosingNamed { tag, place } => Ok(self.closing_named_step(tag, place, token)),
             State::AtomRead { atom, place } => self.atom_step(atom, place, token),
             State::InRepeat {
                 atom,

@@ -41,6 +41,13 @@ pub struct Place {
     pub around: Around,
 }
 
+/// The name in a tag, at its place.
+#[derive(Clone, Copy, Drop)]
+pub struct TagName<'a> {
+    pub at: u32,
+    pub name: &'a str,
+}
+
 /// What of a repetition is read behind its `{`.
 #[derive(Clone, Copy, Drop)]
 pub enum Counting {
@@ -70,34 +77,27 @@ pub struct Side<'a> {
     pub name: &'a str,
 }
 
+/// What of a side of a condition is read.
+#[derive(Clone, Copy, Drop)]
+pub enum SideState {
+    Started,
+    /// The number of a label is read.
+    Numbered { at: u32, number: u32 },
+    /// A label and its dot are read.
+    Dotted { at: u32, number: u32 },
+}
+
 /// What of a condition is read behind its `&`.
 #[derive(Clone, Copy, Drop)]
 pub enum Condition<'a> {
-    Started,
-    Left {
-        at: u32,
-        number: u32,
-    },
-    LeftDot {
-        at: u32,
-        number: u32,
-    },
-    LeftName(Side<'a>),
-    Compared {
-        left: Side<'a>,
-        equal: bool,
-    },
+    /// No more than some of its left side.
+    Left(SideState),
+    LeftRead(Side<'a>),
+    /// Its left side, its sign, and some of its right side.
     Right {
         left: Side<'a>,
         equal: bool,
-        at: u32,
-        number: u32,
-    },
-    RightDot {
-        left: Side<'a>,
-        equal: bool,
-        at: u32,
-        number: u32,
+        right: SideState,
     },
 }
 
@@ -141,13 +141,11 @@ pub enum State<'a> {
         place: Place,
     },
     TagNamed {
-        at: u32,
-        name: &'a str,
+        tag: TagName<'a>,
         place: Place,
     },
     InTag {
-        at: u32,
-        name: &'a str,
+        tag: TagName<'a>,
         test: TestState<'a>,
         place: Place,
     },
@@ -156,8 +154,7 @@ pub enum State<'a> {
         place: Place,
     },
     ClosingNamed {
-        at: u32,
-        name: &'a str,
+        tag: TagName<'a>,
         place: Place,
     },
     /// An atom is read, which may be repeated.

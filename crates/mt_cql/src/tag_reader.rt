@@ -15,86 +15,80 @@ use super::names::{find_kind, or_first, undeclared};
 use super::parts::{Part, TestPart, first_of, more};
 use super::query::{Expr, Test};
 use super::reader::Reader;
-use super::state::{Counting, Place, State};
+use super::state::{Counting, Place, State, TagName};
 use super::test_reader::{Names, TestState, test_start, test_step, whole_test};
 use super::token::{Sign, Token};
 use mt_base::NoMemory;
 
 impl<'a> Reader<'a> {
     /// A tag at which an instance begins.
-    fn begin_tag(&self, at: u32, name: &str, test: TestPart) -> Part
+    fn begin_tag(&self, tag: TagName<'_>, test: TestPart) -> Part
         requires { ValidRegistry self.now.registry.now }
-        ensures { part_seen result ≡ spec.begin_part (kind_names self.now.registry.now.kinds) at name.now (test_part_seen test) }
+        ensures { part_seen result ≡ spec.begin_part (kind_names self.now.registry.now.kinds) tag.entry.at tag.entry.name.now (test_part_seen test) }
     {
-        let found = find_kind(self.registry, name);
+        let found = find_kind(self.registry, tag.name);
         let expr = Expr::Begin {
             kind: or_first(found),
             test: test.test,
         };
         Part::tag(
             expr,
-            first_of(undeclared(at, found), test.unknown),
+            first_of(undeclared(tag.at, found), test.unknown),
             more(test.nodes),
         )
     }
 
     /// A tag of a whole instance.
-    fn whole_tag(&self, at: u32, name: &str, test: TestPart) -> Part
+    fn whole_tag(&self, tag: TagName<'_>, test: TestPart) -> Part
         requires { ValidRegistry self.now.registry.now }
-        ensures { part_seen result ≡ spec.whole_part (kind_names self.now.registry.now.kinds) at name.now (test_part_seen test) }
+        ensures { part_seen result ≡ spec.whole_part (kind_names self.now.registry.now.kinds) tag.entry.at tag.entry.name.now (test_part_seen test) }
     {
-        let found = find_kind(self.registry, name);
+        let found = find_kind(self.registry, tag.name);
         let expr = Expr::Whole {
             kind: or_first(found),
             test: test.test,
         };
         Part::tag(
             expr,
-            first_of(undeclared(at, found), test.unknown),
+            first_of(undeclared(tag.at, found), test.unknown),
             more(test.nodes),
         )
     }
 
     /// A tag at which an instance ends.
-    fn end_tag(&self, at: u32, name: &str) -> Part
+    fn end_tag(&self, tag: TagName<'_>) -> Part
         requires { ValidRegistry self.now.registry.now }
-        ensures { part_seen result ≡ spec.end_part (kind_names self.now.registry.now.kinds) at name.now }
+        ensures { part_seen result ≡ spec.end_part (kind_names self.now.registry.now.kinds) tag.entry.at tag.entry.name.now }
     {
-        let found = find_kind(self.registry, name);
+        let found = find_kind(self.registry, tag.name);
         let expr = Expr::End {
             kind: or_first(found),
         };
-        Part::tag(expr, undeclared(at, found), 1)
+        Part::tag(expr, undeclared(tag.at, found), 1)
     }
 
     /// The next token of a tag's test.
     #[tactic(auto, unfolding(crate::specs::Exprs::in_tag))]
     fn in_tag(
         &self,
-        at: u32,
-        name: &'a str,
+        tag: TagName<'a>,
         test: TestState<'a>,
         place: Place,
         token: Token<'a>,
     ) -> Result<Option<State<'a>>, NoMemory>
         requires { ValidRegistry self.now.registry.now }
-        ensures { IfOk result (λ next. maybe_state_seen next ≡ exprs.in_tag (ways self.now) at name.now (place_seen place)
-            (machine.test_step ((ways self.now).tag_tests name.now) (test_state_seen test.entry) (token_seen token.entry))) }
+        ensures { IfOk result (λ next. maybe_state_seen next ≡ exprs.in_tag (ways self.now) tag.entry.at tag.entry.name.now (place_seen place)
+            (machine.test_step ((ways self.now).tag_tests tag.entry.name.now) (test_state_seen test.entry) (token_seen token.entry))) }
     {
         let names = Names {
             registry: self.registry,
-            tag: Some(name),
+            tag: Some(tag.name),
             bare: None,
         };
         match test_step(self.alloc, &names, test, token) {
             Err(e) => Err(e),
             Ok(None) => Ok(None),
-            Ok(Some(test)) => Ok(Some(State::InTag {
-                at,
-                name,
-                test,
-                place,
-            })),
+            Ok(Some(test)) => Ok(Some(State::InTag { tag, test, place })),
         }
     }
 
@@ -102,25 +96,24 @@ impl<'a> Reader<'a> {
     #[tactic(auto, unfolding(crate::specs::Exprs::begin_read))]
     fn begin_read(
         &self,
-        at: u32,
-        name: &'a str,
+        tag: TagName<'a>,
         test: TestState<'a>,
         place: Place,
     ) -> Result<Option<State<'a>>, NoMemory>
         requires { ValidRegistry self.now.registry.now }
-        ensures { IfOk result (λ next. maybe_state_seen next ≡ exprs.begin_read (ways self.now) at name.now (place_seen place)
-            (machine.whole_test ((ways self.now).tag_tests name.now) (test_state_seen test.entry))) }
+        ensures { IfOk result (λ next. maybe_state_seen next ≡ exprs.begin_read (ways self.now) tag.entry.at tag.entry.name.now (place_seen place)
+            (machine.whole_test ((ways self.now).tag_tests tag.entry.name.now) (test_state_seen test.entry))) }
     {
         let names = Names {
             registry: self.registry,
-            tag: Some(name),
+            tag: Some(tag.name),
             bare: None,
         };
         match whole_test(self.alloc, &names, test) {
             Err(e) => Err(e),
             Ok(None) => Ok(None),
             Ok(Some(test)) => Ok(Some(State::AtomRead {
-                atom: self.begin_tag(at, name, test),
+                atom: self.begin_tag(tag, test),
                 place,
             })),
         }
@@ -130,25 +123,24 @@ impl<'a> Reader<'a> {
     #[tactic(auto, unfolding(crate::specs::Exprs::whole_read))]
     fn whole_read(
         &self,
-        at: u32,
-        name: &'a str,
+        tag: TagName<'a>,
         test: TestState<'a>,
         place: Place,
     ) -> Result<Option<State<'a>>, NoMemory>
         requires { ValidRegistry self.now.registry.now }
-        ensures { IfOk result (λ next. maybe_state_seen next ≡ exprs.whole_read (ways self.now) at name.now (place_seen place)
-            (machine.whole_test ((ways self.now).tag_tests name.now) (test_state_seen test.entry))) }
+        ensures { IfOk result (λ next. maybe_state_seen next ≡ exprs.whole_read (ways self.now) tag.entry.at tag.entry.name.now (place_seen place)
+            (machine.whole_test ((ways self.now).tag_tests tag.entry.name.now) (test_state_seen test.entry))) }
     {
         let names = Names {
             registry: self.registry,
-            tag: Some(name),
+            tag: Some(tag.name),
             bare: None,
         };
         match whole_test(self.alloc, &names, test) {
             Err(e) => Err(e),
             Ok(None) => Ok(None),
             Ok(Some(test)) => Ok(Some(State::AtomRead {
-                atom: self.whole_tag(at, name, test),
+                atom: self.whole_tag(tag, test),
                 place,
             })),
         }
@@ -158,20 +150,19 @@ impl<'a> Reader<'a> {
     #[tactic(auto, unfolding(crate::specs::Exprs::tag_step))]
     pub fn tag_step(
         &self,
-        at: u32,
-        name: &'a str,
+        tag: TagName<'a>,
         test: TestState<'a>,
         place: Place,
         token: Token<'a>,
     ) -> Result<Option<State<'a>>, NoMemory>
         requires { ValidRegistry self.now.registry.now }
         ensures { IfOk result (λ next. maybe_state_seen next
-            ≡ exprs.tag_step (ways self.now) at name.now (test_state_seen test.entry) (place_seen place) (token_seen token.entry)) }
+            ≡ exprs.tag_step (ways self.now) tag.entry.at tag.entry.name.now (test_state_seen test.entry) (place_seen place) (token_seen token.entry)) }
     {
         match token {
-            Token::Mark(Sign::TagEnd) => self.begin_read(at, name, test, place),
-            Token::Mark(Sign::WholeEnd) => self.whole_read(at, name, test, place),
-            token => self.in_tag(at, name, test, place, token),
+            Token::Mark(Sign::TagEnd) => self.begin_read(tag, test, place),
+            Token::Mark(Sign::WholeEnd) => self.whole_read(tag, test, place),
+            token => self.in_tag(tag, test, place, token),
         }
     }
 
@@ -179,24 +170,23 @@ impl<'a> Reader<'a> {
     #[tactic(auto, unfolding(crate::specs::Exprs::named_step))]
     pub fn named_step(
         &self,
-        at: u32,
-        name: &'a str,
+        tag: TagName<'a>,
         place: Place,
         token: Token<'a>,
     ) -> Result<Option<State<'a>>, NoMemory>
         requires { ValidRegistry self.now.registry.now }
-        ensures { IfOk result (λ next. maybe_state_seen next ≡ exprs.named_step (ways self.now) at name.now (place_seen place) (token_seen token.entry)) }
+        ensures { IfOk result (λ next. maybe_state_seen next ≡ exprs.named_step (ways self.now) tag.entry.at tag.entry.name.now (place_seen place) (token_seen token.entry)) }
     {
         match token {
             Token::Mark(Sign::TagEnd) => Ok(Some(State::AtomRead {
-                atom: self.begin_tag(at, name, TestPart::one(Test::Any, None)),
+                atom: self.begin_tag(tag, TestPart::one(Test::Any, None)),
                 place,
             })),
             Token::Mark(Sign::WholeEnd) => Ok(Some(State::AtomRead {
-                atom: self.whole_tag(at, name, TestPart::one(Test::Any, None)),
+                atom: self.whole_tag(tag, TestPart::one(Test::Any, None)),
                 place,
             })),
-            token => self.in_tag(at, name, test_start(self.alloc), place, token),
+            token => self.in_tag(tag, test_start(self.alloc), place, token),
         }
     }
 
@@ -206,7 +196,10 @@ impl<'a> Reader<'a> {
         ensures { maybe_state_seen result ≡ exprs.tag_opened_step (ways self.now) (place_seen place) (token_seen token.entry) }
     {
         match token {
-            Token::Word { at, name } => Some(State::TagNamed { at, name, place }),
+            Token::Word { at, name } => Some(State::TagNamed {
+                tag: TagName { at, name },
+                place,
+            }),
             _ => None,
         }
     }
@@ -217,7 +210,10 @@ impl<'a> Reader<'a> {
         ensures { maybe_state_seen result ≡ exprs.closing_opened_step (ways self.now) (place_seen place) (token_seen token.entry) }
     {
         match token {
-            Token::Word { at, name } => Some(State::ClosingNamed { at, name, place }),
+            Token::Word { at, name } => Some(State::ClosingNamed {
+                tag: TagName { at, name },
+                place,
+            }),
             _ => None,
         }
     }
@@ -226,17 +222,16 @@ impl<'a> Reader<'a> {
     #[tactic(auto, unfolding(crate::specs::Exprs::closing_named_step))]
     pub fn closing_named_step(
         &self,
-        at: u32,
-        name: &'a str,
+        tag: TagName<'a>,
         place: Place,
         token: Token<'a>,
     ) -> Option<State<'a>>
         requires { ValidRegistry self.now.registry.now }
-        ensures { maybe_state_seen result ≡ exprs.closing_named_step (ways self.now) at name.now (place_seen place) (token_seen token.entry) }
+        ensures { maybe_state_seen result ≡ exprs.closing_named_step (ways self.now) tag.entry.at tag.entry.name.now (place_seen place) (token_seen token.entry) }
     {
         match token {
             Token::Mark(Sign::TagEnd) => Some(State::AtomRead {
-                atom: self.end_tag(at, name),
+                atom: self.end_tag(tag),
                 place,
             }),
             _ => None,
