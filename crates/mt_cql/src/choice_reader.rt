@@ -28,18 +28,16 @@ impl<'a> Reader<'a> {
           around = around_seen around;
         }))) }
     {
-        match self.choice_of(branches, sequence) {
-            Err(e) => Err(e),
-            Ok(choice) => Ok(Some(State::Wanted {
-                place: Place {
-                    before: Group {
-                        sequence: None,
-                        branches: Some(choice),
-                    },
-                    around,
+        let choice = self.choice_of(branches, sequence)?;
+        Ok(Some(State::Wanted {
+            place: Place {
+                before: Group {
+                    sequence: None,
+                    branches: Some(choice),
                 },
-            })),
-        }
+                around,
+            },
+        }))
     }
 
     /// A `!` begins an op.
@@ -48,10 +46,9 @@ impl<'a> Reader<'a> {
         ensures { IfOk result (λ next. maybe_state_seen next ≡ exprs.bang (ways self.now)
             (exprs.before_op (ways self.now) (part_seen choice) (map group_seen around.groups) (map head_seen around.heads))) }
     {
-        match self.before_op(choice, around) {
-            Err(e) => Err(e),
-            Ok(None) => Ok(None),
-            Ok(Some((asked, heads))) => Ok(Some(State::BangRead { asked, heads })),
+        match self.before_op(choice, around)? {
+            None => Ok(None),
+            Some((asked, heads)) => Ok(Some(State::BangRead { asked, heads })),
         }
     }
 
@@ -94,21 +91,19 @@ impl<'a> Reader<'a> {
             filters: asked.filters,
             op,
         };
-        match heads.push(head) {
-            Err(e) => Err(e),
-            Ok(()) => Ok(Some(State::Wanted {
-                place: Place {
-                    before: Group {
-                        sequence: None,
-                        branches: None,
-                    },
-                    around: Around {
-                        groups: Stack::new(self.alloc),
-                        heads,
-                    },
+        heads.push(head)?;
+        Ok(Some(State::Wanted {
+            place: Place {
+                before: Group {
+                    sequence: None,
+                    branches: None,
                 },
-            })),
-        }
+                around: Around {
+                    groups: Stack::new(self.alloc),
+                    heads,
+                },
+            },
+        }))
     }
 
     /// An op behind a choice.
@@ -121,10 +116,8 @@ impl<'a> Reader<'a> {
         ensures { IfOk result (λ next. maybe_state_seen next ≡ exprs.filtered (ways self.now) (maybe_op_seen op)
             (exprs.before_op (ways self.now) (part_seen choice) (map group_seen around.groups) (map head_seen around.heads))) }
     {
-        match self.before_op(choice, around) {
-            Err(e) => Err(e),
-            Ok(found) => self.filtered(op, found),
-        }
+        let found = self.before_op(choice, around)?;
+        self.filtered(op, found)
     }
 
     /// A `&` begins the first condition.
@@ -147,10 +140,8 @@ impl<'a> Reader<'a> {
         ensures { IfOk result (λ next. maybe_state_seen next ≡ exprs.cond_begins (ways self.now)
             (exprs.asked_of (ways self.now) (part_seen choice) (map group_seen around.groups) (map head_seen around.heads)) (ways self.now).no_conds) }
     {
-        match self.asked_of(choice, around) {
-            Err(e) => Err(e),
-            Ok(asked) => Ok(self.cond_begins(asked)),
-        }
+        let asked = self.asked_of(choice, around)?;
+        Ok(self.cond_begins(asked))
     }
 
     /// The next token behind an item.
@@ -167,22 +158,22 @@ impl<'a> Reader<'a> {
     {
         match token {
             Token::Mark(Sign::Bar) => self.branch(sequence, branches, around),
-            Token::Mark(Sign::CloseRound) => match self.choice_of(branches, sequence) {
-                Err(e) => Err(e),
-                Ok(choice) => self.close_choice(choice, around),
-            },
-            Token::Mark(Sign::Bang) => match self.choice_of(branches, sequence) {
-                Err(e) => Err(e),
-                Ok(choice) => self.bang(choice, around),
-            },
-            Token::Mark(Sign::And) => match self.choice_of(branches, sequence) {
-                Err(e) => Err(e),
-                Ok(choice) => self.and_behind(choice, around),
-            },
-            Token::Word { at, name } => match self.choice_of(branches, sequence) {
-                Err(e) => Err(e),
-                Ok(choice) => self.op_behind(op_of(at, name), choice, around),
-            },
+            Token::Mark(Sign::CloseRound) => {
+                let choice = self.choice_of(branches, sequence)?;
+                self.close_choice(choice, around)
+            }
+            Token::Mark(Sign::Bang) => {
+                let choice = self.choice_of(branches, sequence)?;
+                self.bang(choice, around)
+            }
+            Token::Mark(Sign::And) => {
+                let choice = self.choice_of(branches, sequence)?;
+                self.and_behind(choice, around)
+            }
+            Token::Word { at, name } => {
+                let choice = self.choice_of(branches, sequence)?;
+                self.op_behind(op_of(at, name), choice, around)
+            }
             token => {
                 let before = Group {
                     sequence: Some(sequence),
@@ -215,10 +206,8 @@ impl<'a> Reader<'a> {
             })),
             token => {
                 let Place { before, around } = place;
-                match self.sequence_of(before.sequence, atom) {
-                    Err(e) => Err(e),
-                    Ok(sequence) => self.read_step(sequence, before.branches, around, token),
-                }
+                let sequence = self.sequence_of(before.sequence, atom)?;
+                self.read_step(sequence, before.branches, around, token)
             }
         }
     }

@@ -89,10 +89,8 @@ impl<'a> Reader<'a> {
         ensures { IfOk result (λ next. maybe_state_seen next
             ≡ Some (exprs.CondRead (asked_seen asked) ((ways self.now).cond (asked_seen asked).choice (conds_seen conds) (cond_tree_seen written.entry)))) }
     {
-        match one_more(self.registry, &asked.choice, conds, &written) {
-            Err(e) => Err(e),
-            Ok(conds) => Ok(Some(State::CondRead { asked, conds })),
-        }
+        let conds = one_more(self.registry, &asked.choice, conds, &written)?;
+        Ok(Some(State::CondRead { asked, conds }))
     }
 
     /// What of a condition is read then, where it goes on.

@@ -111,17 +111,15 @@ impl<'a> Reader<'a> {
         let mut heads = heads;
         match heads.pop() {
             None => Ok(None),
-            Some(head) => match OperandPart::filtered(self.alloc, choice, filters) {
-                Err(e) => Err(e),
-                Ok(operand) => match self.filters_of(head.filters, head.op, operand) {
-                    Err(e) => Err(e),
-                    Ok(filters) => Ok(Some(State::FiltersRead {
-                        choice: head.choice,
-                        filters,
-                        heads,
-                    })),
-                },
-            },
+            Some(head) => {
+                let operand = OperandPart::filtered(self.alloc, choice, filters)?;
+                let filters = self.filters_of(head.filters, head.op, operand)?;
+                Ok(Some(State::FiltersRead {
+                    choice: head.choice,
+                    filters,
+                    heads,
+                }))
+            }
         }
     }
 
@@ -145,10 +143,10 @@ impl<'a> Reader<'a> {
             })),
             None => match heads.pop() {
                 None => Ok(None),
-                Some(head) => match self.with_operand(head.filters, head.op, choice) {
-                    Err(e) => Err(e),
-                    Ok(filters) => self.close_filters(head.choice, filters, heads),
-                },
+                Some(head) => {
+                    let filters = self.with_operand(head.filters, head.op, choice)?;
+                    self.close_filters(head.choice, filters, heads)
+                }
             },
         }
     }
@@ -171,16 +169,14 @@ impl<'a> Reader<'a> {
                 },
                 heads,
             )),
-            Some(head) => match self.with_operand(head.filters, head.op, choice) {
-                Err(e) => Err(e),
-                Ok(filters) => Ok((
-                    Asked {
-                        choice: head.choice,
-                        filters: Some(filters),
-                    },
-                    heads,
-                )),
-            },
+            Some(head) => {
+                let filters = self.with_operand(head.filters, head.op, choice)?;
+                let asked = Asked {
+                    choice: head.choice,
+                    filters: Some(filters),
+                };
+                Ok((asked, heads))
+            }
         }
     }
 
@@ -196,10 +192,7 @@ impl<'a> Reader<'a> {
     {
         let Around { mut groups, heads } = around;
         match groups.pop() {
-            None => match self.filtered_by(choice, heads) {
-                Err(e) => Err(e),
-                Ok(found) => Ok(Some(found)),
-            },
+            None => Ok(Some(self.filtered_by(choice, heads)?)),
             Some(group) => {
                 let opens = opens_operand(&group, &groups, &heads);
                 drop(group);
@@ -240,13 +233,11 @@ impl<'a> Reader<'a> {
                     drop(head);
                     return Ok(None);
                 }
-                match self.with_operand(head.filters, head.op, choice) {
-                    Err(e) => Err(e),
-                    Ok(filters) => Ok(Some(Asked {
-                        choice: head.choice,
-                        filters: Some(filters),
-                    })),
-                }
+                let filters = self.with_operand(head.filters, head.op, choice)?;
+                Ok(Some(Asked {
+                    choice: head.choice,
+                    filters: Some(filters),
+                }))
             }
         }
     }

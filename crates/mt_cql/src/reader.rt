@@ -44,14 +44,12 @@ impl<'a> Reader<'a> {
         ensures { IfOk result (λ next. maybe_state_seen next ≡ Some (exprs.item_read (ways self.now) (part_seen item) (place_seen place))) }
     {
         let Place { before, around } = place;
-        match self.sequence_of(before.sequence, item) {
-            Err(e) => Err(e),
-            Ok(sequence) => Ok(Some(State::ItemRead {
-                sequence,
-                branches: before.branches,
-                around,
-            })),
-        }
+        let sequence = self.sequence_of(before.sequence, item)?;
+        Ok(Some(State::ItemRead {
+            sequence,
+            branches: before.branches,
+            around,
+        }))
     }
 
     /// A string is read that stands for a token test.
@@ -63,13 +61,11 @@ impl<'a> Reader<'a> {
     ) -> Result<Option<State<'a>>, NoMemory>
         ensures { IfOk result (λ next. maybe_state_seen next ≡ Some (exprs.AtomRead ((ways self.now).string (label_seen label) content.now) (place_seen place))) }
     {
-        match bare(self.alloc, self.default, content) {
-            Err(e) => Err(e),
-            Ok(test) => Ok(Some(State::AtomRead {
-                atom: Part::token(label, test),
-                place,
-            })),
-        }
+        let test = bare(self.alloc, self.default, content)?;
+        Ok(Some(State::AtomRead {
+            atom: Part::token(label, test),
+            place,
+        }))
     }
 
     /// A parenthesis opens.
@@ -79,18 +75,16 @@ impl<'a> Reader<'a> {
     {
         let Place { before, around } = place;
         let Around { mut groups, heads } = around;
-        match groups.push(before) {
-            Err(e) => Err(e),
-            Ok(()) => Ok(Some(State::Wanted {
-                place: Place {
-                    before: Group {
-                        sequence: None,
-                        branches: None,
-                    },
-                    around: Around { groups, heads },
+        groups.push(before)?;
+        Ok(Some(State::Wanted {
+            place: Place {
+                before: Group {
+                    sequence: None,
+                    branches: None,
                 },
-            })),
-        }
+                around: Around { groups, heads },
+            },
+        }))
     }
 
     /// The next token where an item is wanted.
@@ -170,10 +164,9 @@ impl<'a> Reader<'a> {
             tag: None,
             bare: Some(self.default),
         };
-        match test_step(self.alloc, &names, test, token) {
-            Err(e) => Err(e),
-            Ok(None) => Ok(None),
-            Ok(Some(test)) => Ok(Some(State::InToken { label, test, place })),
+        match test_step(self.alloc, &names, test, token)? {
+            None => Ok(None),
+            Some(test) => Ok(Some(State::InToken { label, test, place })),
         }
     }
 
@@ -193,10 +186,9 @@ impl<'a> Reader<'a> {
             tag: None,
             bare: Some(self.default),
         };
-        match whole_test(self.alloc, &names, test) {
-            Err(e) => Err(e),
-            Ok(None) => Ok(None),
-            Ok(Some(test)) => Ok(Some(State::AtomRead {
+        match whole_test(self.alloc, &names, test)? {
+            None => Ok(None),
+            Some(test) => Ok(Some(State::AtomRead {
                 atom: Part::token(label, test),
                 place,
             })),

@@ -85,10 +85,9 @@ impl<'a> Reader<'a> {
             tag: Some(tag.name),
             bare: None,
         };
-        match test_step(self.alloc, &names, test, token) {
-            Err(e) => Err(e),
-            Ok(None) => Ok(None),
-            Ok(Some(test)) => Ok(Some(State::InTag { tag, test, place })),
+        match test_step(self.alloc, &names, test, token)? {
+            None => Ok(None),
+            Some(test) => Ok(Some(State::InTag { tag, test, place })),
         }
     }
 
@@ -109,10 +108,9 @@ impl<'a> Reader<'a> {
             tag: Some(tag.name),
             bare: None,
         };
-        match whole_test(self.alloc, &names, test) {
-            Err(e) => Err(e),
-            Ok(None) => Ok(None),
-            Ok(Some(test)) => Ok(Some(State::AtomRead {
+        match whole_test(self.alloc, &names, test)? {
+            None => Ok(None),
+            Some(test) => Ok(Some(State::AtomRead {
                 atom: self.begin_tag(tag, test),
                 place,
             })),
@@ -136,10 +134,9 @@ impl<'a> Reader<'a> {
             tag: Some(tag.name),
             bare: None,
         };
-        match whole_test(self.alloc, &names, test) {
-            Err(e) => Err(e),
-            Ok(None) => Ok(None),
-            Ok(Some(test)) => Ok(Some(State::AtomRead {
+        match whole_test(self.alloc, &names, test)? {
+            None => Ok(None),
+            Some(test) => Ok(Some(State::AtomRead {
                 atom: self.whole_tag(tag, test),
                 place,
             })),
@@ -250,10 +247,8 @@ impl<'a> Reader<'a> {
         ensures { IfOk result (λ next. maybe_state_seen next
             ≡ Some (exprs.item_read (ways self.now) (spec.repeats_part (part_seen atom) least most turned) (place_seen place))) }
     {
-        match Part::repeated(self.alloc, atom, least, most, turned) {
-            Err(e) => Err(e),
-            Ok(item) => self.item_read(item, place),
-        }
+        let item = Part::repeated(self.alloc, atom, least, most, turned)?;
+        self.item_read(item, place)
     }
 
     /// The next token inside `{` and `}`.

@@ -227,13 +227,11 @@ fn open<'a>(level: Level, outer: Stack<Level>) -> Result<Option<TestState<'a>>, 
     ensures { IfOk result (λ next. maybe_test_state_seen next ≡ Some (machine.WantTest machine.empty_level (level_seen level ∷ map level_seen outer))) }
 {
     let mut outer = outer;
-    match outer.push(level) {
-        Err(e) => Err(e),
-        Ok(()) => Ok(Some(TestState::Wanted {
-            level: empty_level(),
-            outer,
-        })),
-    }
+    outer.push(level)?;
+    Ok(Some(TestState::Wanted {
+        level: empty_level(),
+        outer,
+    }))
 }
 
 /// A test without its signs `!` is read, and a token may follow.
@@ -273,10 +271,10 @@ fn want_step<'a>(
         })),
         Token::Quoted(content) => match names.bare {
             None => Ok(None),
-            Some(attr) => match bare(alloc, attr, content) {
-                Err(e) => Err(e),
-                Ok(test) => have_some(alloc, test, level, outer),
-            },
+            Some(attr) => {
+                let test = bare(alloc, attr, content)?;
+                have_some(alloc, test, level, outer)
+            }
         },
         Token::Mark(Sign::Bang) => not_again(level, outer),
         Token::Mark(Sign::OpenRound) => open(level, outer),
@@ -323,10 +321,8 @@ fn compared_part<'a>(
     ensures { IfOk result (λ p. test_part_seen p ≡ (ways_of names.now).compared at name.now (comparison_seen comparison) content.now) }
 {
     let found = find(names.registry, names.tag, name);
-    match compared(alloc, or_first(found), comparison, content) {
-        Err(e) => Err(e),
-        Ok(test) => Ok(TestPart::one(test, undeclared(at, found))),
-    }
+    let test = compared(alloc, or_first(found), comparison, content)?;
+    Ok(TestPart::one(test, undeclared(at, found)))
 }
 
 /// The next token behind a comparison.
@@ -346,10 +342,10 @@ fn compares_step<'a>(
         ≡ machine.compares_step (ways_of names.now) at name.now (comparison_seen comparison) (level_seen level) (map level_seen outer) (token_seen token.entry)) }
 {
     match token {
-        Token::Quoted(content) => match compared_part(alloc, names, at, name, comparison, content) {
-            Err(e) => Err(e),
-            Ok(test) => have_some(alloc, test, level, outer),
-        },
+        Token::Quoted(content) => {
+            let test = compared_part(alloc, names, at, name, comparison, content)?;
+            have_some(alloc, test, level, outer)
+        }
         _ => Ok(None),
     }
 }
@@ -393,21 +389,21 @@ fn read_step<'a>(
             },
             outer,
         })),
-        Token::Mark(Sign::Bar) => match either(alloc, choice, conjunction) {
-            Err(e) => Err(e),
-            Ok(test) => Ok(Some(TestState::Wanted {
+        Token::Mark(Sign::Bar) => {
+            let test = either(alloc, choice, conjunction)?;
+            Ok(Some(TestState::Wanted {
                 level: Level {
                     either: Some(test),
                     both: None,
                     nots: 0,
                 },
                 outer,
-            })),
-        },
-        Token::Mark(Sign::CloseRound) => match either(alloc, choice, conjunction) {
-            Err(e) => Err(e),
-            Ok(test) => close_test(alloc, names, test, outer),
-        },
+            }))
+        }
+        Token::Mark(Sign::CloseRound) => {
+            let test = either(alloc, choice, conjunction)?;
+            close_test(alloc, names, test, outer)
+        }
         _ => Ok(None),
     }
 }
@@ -463,10 +459,7 @@ pub fn whole_test<'a>(
             outer,
         } => {
             if outer.is_empty() {
-                match either(alloc, choice, both) {
-                    Err(e) => Err(e),
-                    Ok(test) => Ok(Some(test)),
-                }
+                Ok(Some(either(alloc, choice, both)?))
             } else {
                 Ok(None)
             }
