@@ -244,10 +244,7 @@ fn have_some<'a>(
     ensures { IfOk result (λ next. maybe_test_state_seen next
         ≡ Some (machine.have_test (spec.tag_part_ways []) (test_part_seen test) (level_seen level) (map level_seen outer))) }
 {
-    match have_test(alloc, test, level, outer) {
-        Err(e) => Err(e),
-        Ok(state) => Ok(Some(state)),
-    }
+    Ok(Some(have_test(alloc, test, level, outer)?))
 }
 
 /// The next token where a test is wanted.
