@@ -6,7 +6,7 @@ use Rattle.mt_script_spec.specs.Script.{Item, Given}
 use Rattle.mt_session_spec.specs.World.{World, Held}
 use Rattle.mt_session_spec.specs.Refusals.{no_memory_line}
 use Rattle.mt_session_spec.specs.Steps.{Step, Meant, Starved, Blocked, Fine}
-use Rattle.mt_session_spec.specs.Replies.{Known, MayBe, known_after, ItemStep, KnownStep}
+use Rattle.mt_session_spec.specs.Replies.{Known, known_after, ItemStep, KnownStep}
 use Rattle.mt_session_spec.specs.Runs.{Outside}
 use Rattle.mt_outside.specs.declared.sink.SinkError.{SinkError}
 use Rattle.mt_shell.specs.declared.talk.Flow.{Flow}

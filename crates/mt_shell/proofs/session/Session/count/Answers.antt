@@ -1,4 +1,4 @@
-use Rattle.std.proofs.Common.{◌∙◌, ap}
+use Rattle.std.proofs.Common.{ap}
 use Rattle.mt_text_spec.specs.Registries.{Registry}
 use Rattle.mt_shell.specs.Sessions.{Standing}
 use Rattle.mt_shell.proofs.Counting.{unread, unknown, counted, number_within, count_is}
