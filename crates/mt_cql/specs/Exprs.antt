@@ -79,6 +79,7 @@ pub data Condition : Type 0 where
   LeftRead : (left : Side) → Condition
   Right : (left : Side) (equal : Bool) (right : SideState) → Condition
 
+-- the condition of two sides and the sign between them
 abbrev pub cond_tree : Side → (equal : Bool) → Side → CondTree
 cond_tree left equal right = record {
   left_at = left.at;
