@@ -4,6 +4,7 @@ pub mod Spelling
 pub mod Reading
 pub mod Closing
 pub mod Caps
+pub mod Kept
 pub mod PartLaws
 pub mod Steps
 pub mod Verdicts

@@ -1,23 +1,29 @@
 -- What the parser keeps is what the productions mean: each step does to the parts what it does to the productions.
-use Rattle.std.proofs.Common.{ℕ, zero, suc, ◌+◌, ◌≡◌, List, [], ◌∷◌, ◌++◌, None, Some, Option, refl, sym, ◌∙◌, ap, length, map, arith, length-append}
+use Rattle.std.proofs.Common.{ℕ, zero, suc, ◌+◌, ◌≡◌, ◌≤◌, List, [], ◌∷◌, ◌++◌, None, Some, Option, refl, sym, ◌∙◌, ap, length, map, arith, length-append}
 use Rattle.std.proofs.lemmas.List.{length-map}
 use Rattle.mt_text_spec.specs.Registries.{Registry, attr_names, kind_names}
 use Rattle.mt_query_spec.specs.Tokens.{Token, Quoted, Number, Word, OpenCurly, Mark, Sign}
 use Rattle.mt_query_spec.specs.Tokens as t
+use Rattle.mt_text_spec.specs.Queries as q
 use Rattle.mt_query_spec.specs.Trees as tree
 use Rattle.mt_query_spec.specs.Trees.{Tested, OfToken, OfTag, TestTree, TestRank, Unary, Conjunction, Whole, Comparison, Accepts, Refuses, Equals, Differs, Label, NoLabel, Labelled, Repetition, Rank, Atom, Item, Sequence, Choice, ExprTree, Op, Filtered, Operand, Filters, FilterTree, CondTree, QueryTree}
 use Rattle.mt_query_spec.specs.Measures.{test_nodes, expr_nodes, expr_size, filter_nodes, filter_size}
-use Rattle.mt_query_spec.specs.Meaning.{number_of, attrs_of_kind, compared, test_of, test_unknown, expr_of, expr_unknown, range_fault, label_fault, label_places, FilterOf, chained, filters_of, filters_unknown, filters_range_fault, filters_label_fault, cond_of, cond_unknown, cond_label_fault, conds_label_fault, conds_unknown, first_of, least_of, query_of as meaning_of}
+use Rattle.mt_query_spec.specs.Meaning.{number_of, or_first, label_number, least_turns, most_turns, attrs_of_kind, test_of, test_unknown, expr_of, expr_unknown, range_fault, label_fault, label_places, FilterOf, kind_of, chained, filters_of, filters_unknown, filters_range_fault, filters_label_fault, cond_of, cond_unknown, cond_label_fault, conds_label_fault, conds_unknown, first_of, least_of, query_of as meaning_of}
 use Rattle.mt_query_spec.specs.Verdicts.{verdict, judged, worst}
 use Rattle.mt_cql.specs.Machine.{TestWays, Level, TestState, WantTest, Named, Compares, HaveTest, nots_of, joined_of, have_test, comparison_of, want_step, named_step as test_named_step, compares_step, have_step, close_test, test_step, whole_test}
-use Rattle.mt_cql.specs.Parts.{capped, TestPart, TestParts, Part, Parts, OperandPart, FiltersPart, FilterParts, CondsPart, not_part, both_part, either_part, compared_part, pattern_part, token_part_ways, tag_part_ways, maybe_part, token_part, begin_part, whole_part, end_part, repeated_part, then_part, or_part, plain_part, with_filters_part, filter_of, filter_part, more_part, cond_part, asks_part, asks_filtered_part, part_ways}
+use Rattle.mt_cql.specs.Parts.{capped, kept, kept_test, kept_expr, great, TestPart, TestParts, Part, OperandPart, FiltersPart, CondsPart, not_part, both_part, either_part, compared_part, pattern_part, token_part_ways, tag_part_ways, maybe_part, token_part, begin_part, whole_part, end_part, repeated_part, then_part, or_part, plain_part, with_filters_part, filter_part, more_part, cond_part, asks_part, asks_filtered_part}
 use Rattle.mt_cql.proofs.TestLaws.{ways_of, the_ways}
+use Rattle.mt_cql.proofs.Kept.{kept_whole, kept_either, kept_in, kept_two, few_nodes, judged_alike}
 use Rattle.mt_cql.proofs.Caps.{cap_more, cap_two, cap_sum, cap_three, cap_times, cap_below, first_of_none, first_of_three, least_of_none, least_of_three}
 
 -- ## Tests
 
 abbrev pub test_part : List (List ℕ) → (default : ℕ) → {of : Tested} {rank : TestRank} → TestTree of rank → TestPart
-test_part names default test = record { test = test_of names default test; unknown = test_unknown names test; nodes = capped (test_nodes (test_of names default test)) }
+test_part names default test = record {
+  test = kept_test (capped (test_nodes (test_of names default test))) (test_of names default test);
+  unknown = test_unknown names test;
+  nodes = capped (test_nodes (test_of names default test));
+}
 
 abbrev pub seen : {A B : Type 0} → (A → B) → Option A → Option B
 seen f None = None
@@ -42,18 +48,32 @@ pub record Alike (names : List (List ℕ)) (default : ℕ) (of : Tested) : Type 
       → (part_ways_of names default of).compared at name comparison content ≡ test_part names default {of = of} (tree.Compared at name comparison content)
 
 not_alike : (names : List (List ℕ)) (default : ℕ) {of : Tested} (test : TestTree of Unary) → not_part (test_part names default test) ≡ test_part names default (tree.Not test)
-not_alike names default test = rw (cap_more (test_nodes (test_of names default test))) refl
+not_alike names default test =
+    let x = test_of names default test in
+    let n = test_nodes x in
+    rw (cap_more n, kept_in q.Not q.Any q.Any x (capped n) (capped (1 + n)) (omega arith)) refl
 
 both_alike : (names : List (List ℕ)) (default : ℕ) {of : Tested} (left : TestTree of Conjunction) (right : TestTree of Unary)
     → both_part (test_part names default left) (test_part names default right) ≡ test_part names default (tree.Both left right)
-both_alike names default left right = rw (cap_two (test_nodes (test_of names default left)) (test_nodes (test_of names default right))) refl
+both_alike names default left right =
+    let x = test_of names default left in
+    let y = test_of names default right in
+    let n = test_nodes x in
+    let k = test_nodes y in
+    rw (cap_two n k, kept_two q.Both q.Any q.Any x q.Any y (capped n) (capped k) (capped (1 + (n + k))) (omega arith) (omega arith)) refl
 
 either_alike : (names : List (List ℕ)) (default : ℕ) {of : Tested} (left : TestTree of Whole) (right : TestTree of Conjunction)
     → either_part (test_part names default left) (test_part names default right) ≡ test_part names default (tree.Either left right)
-either_alike names default left right = rw (cap_two (test_nodes (test_of names default left)) (test_nodes (test_of names default right))) refl
+either_alike names default left right =
+    let x = test_of names default left in
+    let y = test_of names default right in
+    let n = test_nodes x in
+    let k = test_nodes y in
+    rw (cap_two n k, kept_two q.Either q.Any q.Any x q.Any y (capped n) (capped k) (capped (1 + (n + k))) (omega arith) (omega arith)) refl
 
 compared_alike : (names : List (List ℕ)) (default : ℕ) (of : Tested) (at : ℕ) (name : List ℕ) (comparison : Comparison) (content : List ℕ)
     → compared_part names at name comparison content ≡ test_part names default {of = of} (tree.Compared at name comparison content)
+unfolding kept
 compared_alike names default of at name Accepts content = refl
 compared_alike names default of at name Refuses content = refl
 compared_alike names default of at name Equals content = refl
@@ -119,7 +139,7 @@ TestsAlike names default parts trees = parts ≡ seen (seen_test names default) 
 
 want_seen : (names : List (List ℕ)) (default : ℕ) {of : Tested} (level : Level (TestTree of)) (outer : List (Level (TestTree of))) (token : Token)
     → TestsAlike names default (want_step (part_ways_of names default of) (seen_level names default level) (seen_levels names default outer) token) (want_step (ways_of (the_ways of)) level outer token)
-unfolding want_step
+unfolding want_step kept
 want_seen names default level outer (Word at name) = refl
 want_seen names default {of = OfToken} level outer (Quoted content) = ap Some (have_seen names default {of = OfToken} (tree.Bare content) level outer)
 want_seen names default {of = OfTag} level outer (Quoted content) = refl
@@ -181,7 +201,7 @@ whole_seen names default _ = refl
 
 abbrev pub part_of : Registry → (default : ℕ) → {rank : Rank} → ExprTree rank → Part
 part_of registry default part = record {
-  expr = expr_of registry default part;
+  expr = kept_expr (capped (expr_nodes (expr_of registry default part))) (expr_of registry default part);
   labels = label_places part;
   label = label_fault part;
   range = range_fault part;
@@ -190,62 +210,95 @@ part_of registry default part = record {
   size = capped (expr_size (expr_of registry default part));
 }
 
+-- what is kept of an expression that is too great
+abbrev no_expr : q.Expr
+no_expr = q.TokenTest 0 q.Any
+
 module _ (registry : Registry) (default : ℕ) where
   pub token_same : (label : Label) (test : Option (TestTree OfToken Whole))
       → token_part label (maybe_part (seen (test_part (attr_names registry.attrs) default) test)) ≡ part_of registry default (tree.TokenTest label test)
   token_same label None = refl
-  token_same label (Some test) = rw (cap_more (test_nodes (test_of (attr_names registry.attrs) default test))) refl
+  token_same label (Some test) =
+      let x = test_of (attr_names registry.attrs) default test in
+      let n = test_nodes x in
+      rw (cap_more n, kept_in (q.TokenTest (label_number label)) no_expr q.Any x (capped n) (capped (1 + n)) (omega arith)) refl
 
   pub begin_same : (at : ℕ) (name : List ℕ) (test : Option (TestTree OfTag Whole))
       → begin_part (kind_names registry.kinds) at name (maybe_part (seen (test_part (attrs_of_kind registry name) default) test)) ≡ part_of registry default (tree.BeginTag at name test)
   begin_same at name None = refl
-  begin_same at name (Some test) = rw (cap_more (test_nodes (test_of (attrs_of_kind registry name) default test))) refl
+  begin_same at name (Some test) =
+      let x = test_of (attrs_of_kind registry name) default test in
+      let n = test_nodes x in
+      rw (cap_more n, kept_in (q.Begin (or_first (number_of (kind_names registry.kinds) name))) no_expr q.Any x (capped n) (capped (1 + n)) (omega arith)) refl
 
   pub whole_same : (at : ℕ) (name : List ℕ) (test : Option (TestTree OfTag Whole))
       → whole_part (kind_names registry.kinds) at name (maybe_part (seen (test_part (attrs_of_kind registry name) default) test)) ≡ part_of registry default (tree.WholeTag at name test)
   whole_same at name None = refl
-  whole_same at name (Some test) = rw (cap_more (test_nodes (test_of (attrs_of_kind registry name) default test))) refl
+  whole_same at name (Some test) =
+      let x = test_of (attrs_of_kind registry name) default test in
+      let n = test_nodes x in
+      rw (cap_more n, kept_in (q.Whole (or_first (number_of (kind_names registry.kinds) name))) no_expr q.Any x (capped n) (capped (1 + n)) (omega arith)) refl
 
   pub string_same : (label : Label) (content : List ℕ) → token_part label (pattern_part default content) ≡ part_of registry default (tree.String label content)
   string_same label content = refl
 
   pub end_same : (at : ℕ) (name : List ℕ) → end_part (kind_names registry.kinds) at name ≡ part_of registry default (tree.EndTag at name)
+  unfolding kept
   end_same at name = refl
 
   pub repeated_same : (inner : ExprTree Atom) (repetition : Repetition) → repeated_part (part_of registry default inner) repetition ≡ part_of registry default (tree.Repeated inner repetition)
   repeated_same inner repetition =
-      rw (cap_more (expr_nodes (expr_of registry default inner)), cap_times (expr_size (expr_of registry default inner)) (Rattle.mt_query_spec.specs.Meaning.most_turns repetition)) refl
+      let x = expr_of registry default inner in
+      let n = expr_nodes x in
+      rw (
+        cap_more n,
+        kept_in (λ x. q.Repeat x (least_turns repetition) (most_turns repetition)) no_expr no_expr x (capped n) (capped (1 + n)) (omega arith),
+        cap_times (expr_size x) (most_turns repetition),
+      ) refl
 
   pub then_same : (left : ExprTree Sequence) (right : ExprTree Item) → then_part (part_of registry default left) (part_of registry default right) ≡ part_of registry default (tree.Then left right)
   then_same left right =
+      let x = expr_of registry default left in
+      let y = expr_of registry default right in
+      let n = expr_nodes x in
+      let k = expr_nodes y in
       rw (
-        cap_two (expr_nodes (expr_of registry default left)) (expr_nodes (expr_of registry default right)),
-        cap_sum (expr_size (expr_of registry default left)) (expr_size (expr_of registry default right)),
+        cap_two n k,
+        kept_two q.Seq no_expr no_expr x no_expr y (capped n) (capped k) (capped (1 + (n + k))) (omega arith) (omega arith),
+        cap_sum (expr_size x) (expr_size y),
       ) refl
 
   pub or_same : (left : ExprTree Choice) (right : ExprTree Sequence) → or_part (part_of registry default left) (part_of registry default right) ≡ part_of registry default (tree.Or left right)
   or_same left right =
+      let x = expr_of registry default left in
+      let y = expr_of registry default right in
+      let n = expr_nodes x in
+      let k = expr_nodes y in
       rw (
-        cap_two (expr_nodes (expr_of registry default left)) (expr_nodes (expr_of registry default right)),
-        cap_sum (expr_size (expr_of registry default left)) (expr_size (expr_of registry default right)),
+        cap_two n k,
+        kept_two q.Choice no_expr no_expr x no_expr y (capped n) (capped k) (capped (1 + (n + k))) (omega arith) (omega arith),
+        cap_sum (expr_size x) (expr_size y),
       ) refl
 
 -- ## Filters
 
+abbrev pub operand_nodes : Registry → (default : ℕ) → FilterTree Operand → ℕ
+operand_nodes registry default operand = capped (expr_nodes (filters_of registry default operand).0 + filter_nodes (filters_of registry default operand).1)
+
 abbrev pub operand_of : Registry → (default : ℕ) → FilterTree Operand → OperandPart
 operand_of registry default operand = record {
-  head = (filters_of registry default operand).0;
-  filters = (filters_of registry default operand).1;
+  head = kept_expr (operand_nodes registry default operand) (filters_of registry default operand).0;
+  filters = kept (operand_nodes registry default operand) q.NoMore (filters_of registry default operand).1;
   label = filters_label_fault operand;
   range = filters_range_fault operand;
   unknown = filters_unknown registry operand;
-  nodes = capped (expr_nodes (filters_of registry default operand).0 + filter_nodes (filters_of registry default operand).1);
+  nodes = operand_nodes registry default operand;
   size = capped (expr_size (filters_of registry default operand).0 + filter_size (filters_of registry default operand).1);
 }
 
 abbrev pub filters_part_of : Registry → (default : ℕ) → FilterTree Filters → FiltersPart
 filters_part_of registry default filters = record {
-  filters = filters_of registry default filters;
+  filters = kept (capped (filter_nodes (chained (filters_of registry default filters)))) [] (filters_of registry default filters);
   label = filters_label_fault filters;
   range = filters_range_fault filters;
   unknown = filters_unknown registry filters;
@@ -275,22 +328,37 @@ last_size n m = omega arith
 
 pub plain_same : (registry : Registry) (default : ℕ) (choice : ExprTree Choice) → plain_part (part_of registry default choice) ≡ operand_of registry default (tree.Plain choice)
 plain_same registry default choice =
-    rw (none_more (expr_nodes (expr_of registry default choice)), none_more (expr_size (expr_of registry default choice))) refl
+    let n = expr_nodes (expr_of registry default choice) in
+    rw (none_more n, none_more (expr_size (expr_of registry default choice)), kept_either (capped (n + 0)) q.NoMore) refl
 
 pub with_filters_same : (registry : Registry) (default : ℕ) (choice : ExprTree Choice) (filters : FilterTree Filters)
     → with_filters_part (part_of registry default choice) (filters_part_of registry default filters) ≡ operand_of registry default (tree.WithFilters choice filters)
 with_filters_same registry default choice filters =
+    let x = expr_of registry default choice in
+    let fs = filters_of registry default filters in
+    let n = expr_nodes x in
+    let k = filter_nodes (chained fs) in
     rw (
-      cap_sum (expr_nodes (expr_of registry default choice)) (filter_nodes (chained (filters_of registry default filters))),
-      cap_sum (expr_size (expr_of registry default choice)) (filter_size (chained (filters_of registry default filters))),
+      cap_sum n k,
+      cap_sum (expr_size x) (filter_size (chained fs)),
+      kept_in {X = q.Expr} {Y = q.Expr} (λ x. x) no_expr no_expr x (capped n) (capped (n + k)) (omega arith),
+      kept_in chained q.NoMore [] fs (capped k) (capped (n + k)) (omega arith),
     ) refl
+
+-- a filter by its operator and its operand
+abbrev one_filter : Op → q.Expr → q.Filters → List FilterOf
+one_filter op head filters = record { kind = kind_of op; head = head; filters = filters } ∷ []
 
 pub filter_same : (registry : Registry) (default : ℕ) (op : Op) (operand : FilterTree Operand)
     → filter_part op (operand_of registry default operand) ≡ filters_part_of registry default (tree.Filter op operand)
 filter_same registry default op operand =
+    let o = filters_of registry default operand in
+    let n = expr_nodes o.0 in
+    let k = filter_nodes o.1 in
     rw (
-      last_one (expr_nodes (filters_of registry default operand).0) (filter_nodes (filters_of registry default operand).1),
-      last_size (expr_size (filters_of registry default operand).0) (filter_size (filters_of registry default operand).1),
+      last_one n k,
+      last_size (expr_size o.0) (filter_size o.1),
+      kept_two (one_filter op) [] no_expr o.0 q.NoMore o.1 (capped (n + k)) (capped (n + k)) (capped (1 + (n + (k + 0)))) (omega arith) (omega arith),
     ) refl
 
 pub more_same : (registry : Registry) (default : ℕ) (filters : FilterTree Filters) (op : Op) (operand : FilterTree Operand)
@@ -298,11 +366,15 @@ pub more_same : (registry : Registry) (default : ℕ) (filters : FilterTree Filt
 more_same registry default filters op operand =
     let o = filters_of registry default operand in
     let f = filters_of registry default filters in
+    let n = filter_nodes (chained f) in
+    let k = expr_nodes o.0 + filter_nodes o.1 in
     rw (
-      nodes_snoc f (record { kind = Rattle.mt_query_spec.specs.Meaning.kind_of op; head = o.0; filters = o.1 }),
-      size_snoc f (record { kind = Rattle.mt_query_spec.specs.Meaning.kind_of op; head = o.0; filters = o.1 }),
-      cap_two (filter_nodes (chained f)) (expr_nodes o.0 + filter_nodes o.1),
+      nodes_snoc f (record { kind = kind_of op; head = o.0; filters = o.1 }),
+      size_snoc f (record { kind = kind_of op; head = o.0; filters = o.1 }),
+      cap_two n k,
       cap_sum (filter_size (chained f)) (expr_size o.0 + filter_size o.1),
+      kept_in {X = List FilterOf} {Y = List FilterOf} (λ x. x ++ one_filter op (kept_expr (capped k) o.0) (kept (capped k) q.NoMore o.1)) [] [] f (capped n) (capped (1 + (n + k))) (omega arith),
+      kept_two (λ x y. f ++ one_filter op x y) [] no_expr o.0 q.NoMore o.1 (capped k) (capped k) (capped (1 + (n + k))) (omega arith) (omega arith),
     ) refl
 
 -- ## Conditions
@@ -338,8 +410,16 @@ cond_same registry default head conds c =
 
 -- ## Queries
 
-great_same : (a b c d : ℕ) → a ≡ b → c ≡ d → Rattle.mt_cql.specs.Parts.great (capped a) (capped c) ≡ Rattle.mt_cql.specs.Parts.great b d
+great_same : (a b c d : ℕ) → a ≡ b → c ≡ d → great (capped a) (capped c) ≡ great b d
 great_same a b c d e f = rw (cap_below a 256 (omega arith), cap_below c 4096 (omega arith), e, f) refl
+
+abbrev query_with : q.Expr → q.Filters → List q.Cond → q.Query
+query_with head filters conds = record { head = head; filters = filters; conds = conds }
+
+-- a query of parts that have few nodes has their trees
+query_kept : (head : q.Expr) (filters : List FilterOf) (conds : List q.Cond) (n k : ℕ) → n ≤ 256 → k ≤ 256
+    → query_with (kept_expr n head) (chained (kept k [] filters)) conds ≡ query_with head (chained filters) conds
+query_kept head filters conds n k h i = rw (kept_whole n no_expr head h, kept_whole k [] filters i) refl
 
 pub asks_same : (registry : Registry) (default : ℕ) (head : ExprTree Choice) (conds : List CondTree)
     → asks_part (part_of registry default head) (conds_of registry head conds) ≡ verdict registry default (tree.Asks head conds)
@@ -347,9 +427,14 @@ asks_same registry default head conds =
     let n = expr_nodes (expr_of registry default head) in
     let s = expr_size (expr_of registry default head) in
     let l : length (map (cond_of registry) conds) ≡ length conds = length-map conds (cond_of registry) in
-    ap (λ g. judged (worst (range_fault head) (least_of (label_fault head) (conds_label_fault (label_places head) conds))) (first_of (expr_unknown registry head) (conds_unknown registry conds)) g
-    (meaning_of registry default (tree.Asks head conds)))
-    (ap (λ x. Rattle.mt_cql.specs.Parts.great x (capped s)) (cap_sum n (length conds)) ∙ great_same (n + length conds) (n + (0 + length (map (cond_of registry) conds))) s (s + 0) (omega arith) (omega arith))
+    let fault = worst (range_fault head) (least_of (label_fault head) (conds_label_fault (label_places head) conds)) in
+    let unknown = first_of (expr_unknown registry head) (conds_unknown registry conds) in
+    judged_alike fault unknown (great (capped (capped n + capped (length conds))) (capped s)) (query_with (kept_expr (capped n) (expr_of registry default head)) q.NoMore (map (cond_of registry) conds))
+    (meaning_of registry default (tree.Asks head conds)) (λ g.
+    let few : capped (capped n + capped (length conds)) ≤ 256 = few_nodes (capped (capped n + capped (length conds))) (capped s) g in
+    ap (λ x. query_with x q.NoMore (map (cond_of registry) conds)) (kept_whole (capped n) no_expr (expr_of registry default head) (omega arith)))
+    ∙ ap (λ g. judged fault unknown g (meaning_of registry default (tree.Asks head conds)))
+    (ap (λ x. great x (capped s)) (cap_sum n (length conds)) ∙ great_same (n + length conds) (n + (0 + length (map (cond_of registry) conds))) s (s + 0) (omega arith) (omega arith))
 
 pub asks_filtered_same : (registry : Registry) (default : ℕ) (head : ExprTree Choice) (filters : FilterTree Filters) (conds : List CondTree)
     → asks_filtered_part (part_of registry default head) (filters_part_of registry default filters) (conds_of registry head conds) ≡ verdict registry default (tree.AsksFiltered head filters conds)
@@ -358,10 +443,16 @@ asks_filtered_same registry default head filters conds =
     let s = expr_size (expr_of registry default head) in
     let fs = chained (filters_of registry default filters) in
     let l : length (map (cond_of registry) conds) ≡ length conds = length-map conds (cond_of registry) in
-    ap (λ g. judged (worst (least_of (range_fault head) (filters_range_fault filters))
-    (least_of (least_of (label_fault head) (filters_label_fault filters)) (conds_label_fault (label_places head) conds)))
-    (first_of (first_of (expr_unknown registry head) (filters_unknown registry filters)) (conds_unknown registry conds)) g
-    (meaning_of registry default (tree.AsksFiltered head filters conds)))
-    (ap (λ x. Rattle.mt_cql.specs.Parts.great x (capped (capped s + capped (filter_size fs)))) (cap_three n (filter_nodes fs) (length conds))
-    ∙ ap (λ x. Rattle.mt_cql.specs.Parts.great (capped (n + (filter_nodes fs + length conds))) x) (cap_sum s (filter_size fs))
+    let fault = worst (least_of (range_fault head) (filters_range_fault filters)) (least_of (least_of (label_fault head) (filters_label_fault filters)) (conds_label_fault (label_places head) conds)) in
+    let unknown = first_of (first_of (expr_unknown registry head) (filters_unknown registry filters)) (conds_unknown registry conds) in
+    let m = capped (capped n + capped (capped (filter_nodes fs) + capped (length conds))) in
+    let t = capped (capped s + capped (filter_size fs)) in
+    judged_alike fault unknown (great m t)
+    (query_with (kept_expr (capped n) (expr_of registry default head)) (chained (kept (capped (filter_nodes fs)) [] (filters_of registry default filters))) (map (cond_of registry) conds))
+    (meaning_of registry default (tree.AsksFiltered head filters conds)) (λ g.
+    let few : m ≤ 256 = few_nodes m t g in
+    query_kept (expr_of registry default head) (filters_of registry default filters) (map (cond_of registry) conds) (capped n) (capped (filter_nodes fs)) (omega arith) (omega arith))
+    ∙ ap (λ g. judged fault unknown g (meaning_of registry default (tree.AsksFiltered head filters conds)))
+    (ap (λ x. great x (capped (capped s + capped (filter_size fs)))) (cap_three n (filter_nodes fs) (length conds))
+    ∙ ap (λ x. great (capped (n + (filter_nodes fs + length conds))) x) (cap_sum s (filter_size fs))
     ∙ great_same (n + (filter_nodes fs + length conds)) (n + (filter_nodes fs + length (map (cond_of registry) conds))) (s + filter_size fs) (s + filter_size fs) (omega arith) refl)

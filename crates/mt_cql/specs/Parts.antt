@@ -12,6 +12,16 @@ use Rattle.mt_cql.specs.Exprs.{Ways}
 abbrev pub capped : ℕ → ℕ
 capped n = min n (2 ^ 32 - 1)
 
+-- what has more nodes than a query may have is not kept, but something small in its place, since it can only be refused
+unfoldable pub kept : {X : Type 0} → (nodes : ℕ) → (small whole : X) → X
+kept nodes small whole = cond (nat_lt 256 nodes) small whole
+
+abbrev pub kept_test : ℕ → q.Test → q.Test
+kept_test nodes test = kept nodes q.Any test
+
+abbrev pub kept_expr : ℕ → q.Expr → q.Expr
+kept_expr nodes expr = kept nodes (q.TokenTest 0 q.Any) expr
+
 -- a test, the first undeclared name in it, and its nodes
 pub record TestPart : Type 0 where
   pub test : q.Test
@@ -19,13 +29,21 @@ pub record TestPart : Type 0 where
   pub nodes : ℕ
 
 abbrev pub not_part : TestPart → TestPart
-not_part inner = record { test = q.Not inner.test; unknown = inner.unknown; nodes = capped (inner.nodes + 1) }
+not_part inner = record { test = kept_test (capped (inner.nodes + 1)) (q.Not inner.test); unknown = inner.unknown; nodes = capped (inner.nodes + 1) }
 
 abbrev pub both_part : TestPart → TestPart → TestPart
-both_part left right = record { test = q.Both left.test right.test; unknown = first_of left.unknown right.unknown; nodes = capped (capped (left.nodes + right.nodes) + 1) }
+both_part left right = record {
+  test = kept_test (capped (capped (left.nodes + right.nodes) + 1)) (q.Both left.test right.test);
+  unknown = first_of left.unknown right.unknown;
+  nodes = capped (capped (left.nodes + right.nodes) + 1);
+}
 
 abbrev pub either_part : TestPart → TestPart → TestPart
-either_part left right = record { test = q.Either left.test right.test; unknown = first_of left.unknown right.unknown; nodes = capped (capped (left.nodes + right.nodes) + 1) }
+either_part left right = record {
+  test = kept_test (capped (capped (left.nodes + right.nodes) + 1)) (q.Either left.test right.test);
+  unknown = first_of left.unknown right.unknown;
+  nodes = capped (capped (left.nodes + right.nodes) + 1);
+}
 
 abbrev pub compared_part : List (List ℕ) → ℕ → List ℕ → Comparison → List ℕ → TestPart
 compared_part names at name comparison content =
@@ -96,7 +114,7 @@ firsts places others = first_at 0 places others ∷ first_at 1 places others ∷
 
 abbrev pub token_part : Label → TestPart → Part
 token_part label test = record {
-  expr = q.TokenTest (label_number label) test.test;
+  expr = kept_expr (capped (test.nodes + 1)) (q.TokenTest (label_number label) test.test);
   labels = label_places_of label;
   label = no_label label;
   range = None;
@@ -108,7 +126,7 @@ token_part label test = record {
 abbrev pub begin_part : List (List ℕ) → ℕ → List ℕ → TestPart → Part
 begin_part kinds at name test =
     let found = number_of kinds name in record {
-      expr = q.Begin (or_first found) test.test;
+      expr = kept_expr (capped (test.nodes + 1)) (q.Begin (or_first found) test.test);
       labels = no_labels;
       label = None;
       range = None;
@@ -120,7 +138,7 @@ begin_part kinds at name test =
 abbrev pub whole_part : List (List ℕ) → ℕ → List ℕ → TestPart → Part
 whole_part kinds at name test =
     let found = number_of kinds name in record {
-      expr = q.Whole (or_first found) test.test;
+      expr = kept_expr (capped (test.nodes + 1)) (q.Whole (or_first found) test.test);
       labels = no_labels;
       label = None;
       range = None;
@@ -144,7 +162,7 @@ end_part kinds at name =
 -- repeated so many times, where `turned` is the place of a `{` with the greater number first
 abbrev pub repeats_part : Part → (turns most : ℕ) → (turned : Option ℕ) → Part
 repeats_part inner turns most turned = record {
-  expr = q.Repeat inner.expr turns most;
+  expr = kept_expr (capped (inner.nodes + 1)) (q.Repeat inner.expr turns most);
   labels = inner.labels;
   label = least_of inner.label (cond (nat_lt 1 most) (least inner.labels) None);
   range = least_of inner.range turned;
@@ -158,7 +176,7 @@ repeated_part inner repetition = repeats_part inner (least_turns repetition) (mo
 
 abbrev pub then_part : Part → Part → Part
 then_part left right = record {
-  expr = q.Seq left.expr right.expr;
+  expr = kept_expr (capped (capped (left.nodes + right.nodes) + 1)) (q.Seq left.expr right.expr);
   labels = firsts left.labels right.labels;
   label = least_of left.label (least_of right.label (least (again left.labels right.labels)));
   range = least_of left.range right.range;
@@ -169,7 +187,7 @@ then_part left right = record {
 
 abbrev pub or_part : Part → Part → Part
 or_part left right = record {
-  expr = q.Choice left.expr right.expr;
+  expr = kept_expr (capped (capped (left.nodes + right.nodes) + 1)) (q.Choice left.expr right.expr);
   labels = firsts left.labels right.labels;
   label = least_of left.label right.label;
   range = least_of left.range right.range;
@@ -217,8 +235,8 @@ plain_part choice = record {
 
 abbrev pub with_filters_part : Part → FiltersPart → OperandPart
 with_filters_part choice filters = record {
-  head = choice.expr;
-  filters = chained filters.filters;
+  head = kept_expr (capped (choice.nodes + filters.nodes)) choice.expr;
+  filters = kept (capped (choice.nodes + filters.nodes)) q.NoMore (chained filters.filters);
   label = least_of (least_of choice.label (least choice.labels)) filters.label;
   range = least_of choice.range filters.range;
   unknown = first_of choice.unknown filters.unknown;
@@ -231,7 +249,7 @@ filter_of kind operand = record { kind = kind; head = operand.head; filters = op
 
 abbrev pub filter_by : q.FilterKind → OperandPart → FiltersPart
 filter_by kind operand = record {
-  filters = filter_of kind operand ∷ [];
+  filters = kept (capped (operand.nodes + 1)) [] (filter_of kind operand ∷ []);
   label = operand.label;
   range = operand.range;
   unknown = operand.unknown;
@@ -241,7 +259,7 @@ filter_by kind operand = record {
 
 abbrev pub more_by : FiltersPart → q.FilterKind → OperandPart → FiltersPart
 more_by filters kind operand = record {
-  filters = filters.filters ++ filter_of kind operand ∷ [];
+  filters = kept (capped (capped (filters.nodes + operand.nodes) + 1)) [] (filters.filters ++ filter_of kind operand ∷ []);
   label = least_of filters.label operand.label;
   range = least_of filters.range operand.range;
   unknown = first_of filters.unknown operand.unknown;

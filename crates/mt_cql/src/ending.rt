@@ -9,7 +9,7 @@ ghost use Rattle.mt_cql.specs.Shape.{Said, query_seen, part_seen, filters_seen, 
 ghost use Rattle.mt_cql.specs.StateSeen.{ways, maybe_part_seen, around_seen, asked_seen, maybe_asked_seen, place_seen, state_seen, fault_seen};
 
 use super::conds::no_conds;
-use super::parts::{CondsPart, FiltersPart, Part, chained, first_of, least_of, sum};
+use super::parts::{CondsPart, FiltersPart, MOST_NODES, Part, chained, first_of, least_of, sum};
 use super::query::{Cause, Filters, Query, QueryError};
 use super::reader::Reader;
 use super::state::{Around, Asked, Place, State};
@@ -37,7 +37,7 @@ fn worst(range: Option<u32>, label: Option<u32>) -> Option<(u32, Cause)>
 fn is_great(nodes: u32, size: u32) -> bool
     ensures { result ≡ spec.great nodes size }
 {
-    nodes > 256 || size > 4096
+    nodes > MOST_NODES || size > 4096
 }
 
 /// What is said of a query: a range or a label at fault first, then a name that is not declared, then that it is too great.

@@ -1,6 +1,10 @@
 //! What is kept of what was read: a part of the query, and what of it is at fault.
+//!
+//! A part with more nodes than a query may have keeps no tree, but a small one in its place, since it can only be refused. So no tree is deeper than its
+//! nodes allow, and to let go of one does not recurse as deep as the text is long.
 
-ghost use Rattle.std.specs.Prelude.{◌≡◌, ◌+◌, map, None, IfOk};
+ghost use Rattle.std.specs.Prelude.{◌≡◌, ◌+◌, map, [], None, IfOk};
+ghost use Rattle.mt_text_spec.specs.Queries.{NoMore};
 ghost use Rattle.mt_query_spec.specs.Meaning as meaning;
 ghost use Rattle.mt_cql.specs.Parts as spec;
 ghost use Rattle.mt_cql.specs.Shape.{shape, test_shape, filters_shape, test_part_seen, part_seen, label_seen, filter_seen, operand_seen, filters_seen, op_seen};
@@ -43,6 +47,60 @@ pub fn more(n: u32) -> u32
     n.saturating_add(1)
 }
 
+/// How many nodes a query may have.
+pub const MOST_NODES: u32 = 256;
+
+/// A test of so many nodes, or a small one where these are too many.
+#[tactic(auto, unfolding(crate::specs::Parts::kept))]
+fn kept_test(nodes: u32, test: Test) -> Test
+    ensures { test_shape result ≡ spec.kept_test nodes (test_shape test) }
+{
+    if nodes <= MOST_NODES {
+        return test;
+    }
+    drop(test);
+    Test::Any
+}
+
+/// An expression of a part of so many nodes, or a small one where these are too many.
+#[tactic(auto, unfolding(crate::specs::Parts::kept))]
+fn kept_expr(nodes: u32, expr: Expr) -> Expr
+    ensures { shape result ≡ spec.kept_expr nodes (shape expr) }
+{
+    if nodes <= MOST_NODES {
+        return expr;
+    }
+    drop(expr);
+    Expr::Token {
+        label: 0,
+        test: Test::Any,
+    }
+}
+
+/// The filters of an operand of so many nodes, or none where these are too many.
+#[tactic(auto, unfolding(crate::specs::Parts::kept))]
+fn kept_chain(nodes: u32, filters: Filters) -> Filters
+    ensures { filters_shape result ≡ spec.kept nodes NoMore (filters_shape filters) }
+{
+    if nodes <= MOST_NODES {
+        return filters;
+    }
+    drop(filters);
+    Filters::End
+}
+
+/// Filters of so many nodes, or none where these are too many.
+#[tactic(auto, unfolding(crate::specs::Parts::kept))]
+fn kept_filters(nodes: u32, filters: List<Filter>) -> List<Filter>
+    ensures { map filter_seen result ≡ spec.kept nodes [] (map filter_seen filters) }
+{
+    let mut kept = filters;
+    if nodes > MOST_NODES {
+        kept.truncate(0);
+    }
+    kept
+}
+
 /// A test that was read.
 #[derive(Drop)]
 pub struct TestPart {
@@ -67,30 +125,36 @@ impl TestPart {
     pub fn not(alloc: Global, inner: TestPart) -> Result<TestPart, NoMemory>
         ensures { IfOk result (λ p. test_part_seen p ≡ spec.not_part (test_part_seen inner)) }
     {
+        let nodes = more(inner.nodes);
+        let test = Test::Not(Box::new(alloc, inner.test)?);
         Ok(TestPart {
-            test: Test::Not(Box::new(alloc, inner.test)?),
+            test: kept_test(nodes, test),
             unknown: inner.unknown,
-            nodes: more(inner.nodes),
+            nodes,
         })
     }
 
     pub fn both(alloc: Global, left: TestPart, right: TestPart) -> Result<TestPart, NoMemory>
         ensures { IfOk result (λ p. test_part_seen p ≡ spec.both_part (test_part_seen left) (test_part_seen right)) }
     {
+        let nodes = more(sum(left.nodes, right.nodes));
+        let test = Test::Both(Box::new(alloc, left.test)?, Box::new(alloc, right.test)?);
         Ok(TestPart {
-            test: Test::Both(Box::new(alloc, left.test)?, Box::new(alloc, right.test)?),
+            test: kept_test(nodes, test),
             unknown: first_of(left.unknown, right.unknown),
-            nodes: more(sum(left.nodes, right.nodes)),
+            nodes,
         })
     }
 
     pub fn either(alloc: Global, left: TestPart, right: TestPart) -> Result<TestPart, NoMemory>
         ensures { IfOk result (λ p. test_part_seen p ≡ spec.either_part (test_part_seen left) (test_part_seen right)) }
     {
+        let nodes = more(sum(left.nodes, right.nodes));
+        let test = Test::Either(Box::new(alloc, left.test)?, Box::new(alloc, right.test)?);
         Ok(TestPart {
-            test: Test::Either(Box::new(alloc, left.test)?, Box::new(alloc, right.test)?),
+            test: kept_test(nodes, test),
             unknown: first_of(left.unknown, right.unknown),
-            nodes: more(sum(left.nodes, right.nodes)),
+            nodes,
         })
     }
 }
@@ -234,26 +298,28 @@ impl Part {
     pub fn token(label: Label, test: TestPart) -> Part
         ensures { part_seen result ≡ spec.token_part (label_seen label) (test_part_seen test) }
     {
+        let nodes = more(test.nodes);
+        let expr = Expr::Token {
+            label: label_number(label),
+            test: test.test,
+        };
         Part {
-            expr: Expr::Token {
-                label: label_number(label),
-                test: test.test,
-            },
+            expr: kept_expr(nodes, expr),
             labels: label_places(label),
             label: no_label(label),
             range: None,
             unknown: test.unknown,
-            nodes: more(test.nodes),
+            nodes,
             size: 1,
         }
     }
 
     /// A tag, with the first name in it that is not declared and its nodes.
     pub fn tag(expr: Expr, unknown: Option<u32>, nodes: u32) -> Part
-        ensures { part_seen result ≡ record { expr = shape expr; labels = spec.no_labels; label = None; range = None; unknown = unknown; nodes = nodes; size = 1 } }
+        ensures { part_seen result ≡ record { expr = spec.kept_expr nodes (shape expr); labels = spec.no_labels; label = None; range = None; unknown = unknown; nodes = nodes; size = 1 } }
     {
         Part {
-            expr,
+            expr: kept_expr(nodes, expr),
             labels: no_labels(),
             label: None,
             range: None,
@@ -274,17 +340,19 @@ impl Part {
         ensures { IfOk result (λ p. part_seen p ≡ spec.repeats_part (part_seen inner) turns most turned) }
     {
         let under = if 1 < most { least(&inner.labels) } else { None };
+        let nodes = more(inner.nodes);
+        let expr = Expr::Repeat {
+            inner: Box::new(alloc, inner.expr)?,
+            least: turns,
+            most,
+        };
         Ok(Part {
-            expr: Expr::Repeat {
-                inner: Box::new(alloc, inner.expr)?,
-                least: turns,
-                most,
-            },
+            expr: kept_expr(nodes, expr),
             labels: inner.labels,
             label: least_of(inner.label, under),
             range: least_of(inner.range, turned),
             unknown: inner.unknown,
-            nodes: more(inner.nodes),
+            nodes,
             size: inner.size.saturating_mul(most.max(1)),
         })
     }
@@ -294,13 +362,15 @@ impl Part {
         ensures { IfOk result (λ p. part_seen p ≡ spec.then_part (part_seen left) (part_seen right)) }
     {
         let again = least_again(&left.labels, &right.labels);
+        let nodes = more(sum(left.nodes, right.nodes));
+        let expr = Expr::Seq(Box::new(alloc, left.expr)?, Box::new(alloc, right.expr)?);
         Ok(Part {
-            expr: Expr::Seq(Box::new(alloc, left.expr)?, Box::new(alloc, right.expr)?),
+            expr: kept_expr(nodes, expr),
             labels: firsts(left.labels, right.labels),
             label: least_of(left.label, least_of(right.label, again)),
             range: least_of(left.range, right.range),
             unknown: first_of(left.unknown, right.unknown),
-            nodes: more(sum(left.nodes, right.nodes)),
+            nodes,
             size: sum(left.size, right.size),
         })
     }
@@ -309,13 +379,15 @@ impl Part {
     pub fn or(alloc: Global, left: Part, right: Part) -> Result<Part, NoMemory>
         ensures { IfOk result (λ p. part_seen p ≡ spec.or_part (part_seen left) (part_seen right)) }
     {
+        let nodes = more(sum(left.nodes, right.nodes));
+        let expr = Expr::Choice(Box::new(alloc, left.expr)?, Box::new(alloc, right.expr)?);
         Ok(Part {
-            expr: Expr::Choice(Box::new(alloc, left.expr)?, Box::new(alloc, right.expr)?),
+            expr: kept_expr(nodes, expr),
             labels: firsts(left.labels, right.labels),
             label: least_of(left.label, right.label),
             range: least_of(left.range, right.range),
             unknown: first_of(left.unknown, right.unknown),
-            nodes: more(sum(left.nodes, right.nodes)),
+            nodes,
             size: sum(left.size, right.size),
         })
     }
@@ -381,13 +453,15 @@ impl OperandPart {
         ensures { IfOk result (λ o. operand_seen o ≡ spec.with_filters_part (part_seen choice) (filters_seen filters)) }
     {
         let label = least_of(choice.label, least(&choice.labels));
+        let nodes = sum(choice.nodes, filters.nodes);
+        let chain = chained(alloc, filters.filters)?;
         Ok(OperandPart {
-            head: choice.expr,
-            filters: chained(alloc, filters.filters)?,
+            head: kept_expr(nodes, choice.expr),
+            filters: kept_chain(nodes, chain),
             label: least_of(label, filters.label),
             range: least_of(choice.range, filters.range),
             unknown: first_of(choice.unknown, filters.unknown),
-            nodes: sum(choice.nodes, filters.nodes),
+            nodes,
             size: sum(choice.size, filters.size),
         })
     }
@@ -402,6 +476,7 @@ impl FiltersPart {
     ) -> Result<FiltersPart, NoMemory>
         ensures { IfOk result (λ f. filters_seen f ≡ spec.filter_by (op_seen kind) (operand_seen operand)) }
     {
+        let nodes = more(operand.nodes);
         let mut filters = List::new(alloc);
         filters.push(Filter {
             kind,
@@ -409,11 +484,11 @@ impl FiltersPart {
             filters: operand.filters,
         })?;
         Ok(FiltersPart {
-            filters,
+            filters: kept_filters(nodes, filters),
             label: operand.label,
             range: operand.range,
             unknown: operand.unknown,
-            nodes: more(operand.nodes),
+            nodes,
             size: operand.size,
         })
     }
@@ -426,6 +501,7 @@ impl FiltersPart {
     ) -> Result<FiltersPart, NoMemory>
         ensures { IfOk result (λ f. filters_seen f ≡ spec.more_by (filters_seen filters) (op_seen kind) (operand_seen operand)) }
     {
+        let nodes = more(sum(filters.nodes, operand.nodes));
         let mut list = filters.filters;
         list.push(Filter {
             kind,
@@ -433,11 +509,11 @@ impl FiltersPart {
             filters: operand.filters,
         })?;
         Ok(FiltersPart {
-            filters: list,
+            filters: kept_filters(nodes, list),
             label: least_of(filters.label, operand.label),
             range: least_of(filters.range, operand.range),
             unknown: first_of(filters.unknown, operand.unknown),
-            nodes: more(sum(filters.nodes, operand.nodes)),
+            nodes,
             size: sum(filters.size, operand.size),
         })
     }

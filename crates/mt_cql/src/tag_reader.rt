@@ -56,6 +56,7 @@ impl<'a> Reader<'a> {
     }
 
     /// A tag at which an instance ends.
+    #[tactic(auto, unfolding(crate::specs::Parts::kept))]
     fn end_tag(&self, tag: TagName<'_>) -> Part
         requires { ValidRegistry self.now.registry.now }
         ensures { part_seen result ≡ spec.end_part (kind_names self.now.registry.now.kinds) tag.entry.at tag.entry.name.now }
