@@ -4,7 +4,7 @@ use Rattle.std.specs.List.{Any, flat_map}
 use Rattle.std.specs.Str.{bytes_eq}
 use Rattle.std.specs.Str.Lines.{lines}
 use Rattle.mt_text_spec.specs.Registries.{Registry}
-use Rattle.mt_text_spec.specs.Texts.{Token, StructSpan, Text, text_limit}
+use Rattle.mt_text_spec.specs.Texts.{Token, StructSpan, Text, text_tokens_limit, value_bytes_limit}
 use Rattle.mt_file_spec.specs.VerticalLines.{Role, Opens, Stands, Closes, Gives, Plays}
 
 -- one byte order mark in front is no part of a text
@@ -78,15 +78,11 @@ kept (Stands kind values) = values
 kept (Gives token) = token.values
 kept role = []
 
--- the longest value in bytes
-abbrev pub value_limit : ℕ
-value_limit = 1024
-
 -- a line behind so many tokens has this cause
 abbrev pub HasCause : Registry → ℕ → List ℕ → TextCause → Type 0
 HasCause registry place line NotUtf8 = ¬ IsUtf8 line
-HasCause registry place line TooManyTokens = (place ≡ text_limit) × ((token : Token) × Plays registry line (Gives token))
-HasCause registry place line ValueTooLong = (role : Role) × Plays registry line role × Any (λ value. value_limit < length value) (kept role)
+HasCause registry place line TooManyTokens = (place ≡ text_tokens_limit) × ((token : Token) × Plays registry line (Gives token))
+HasCause registry place line ValueTooLong = (role : Role) × Plays registry line role × Any (λ value. value_bytes_limit < length value) (kept role)
 
 -- the lines from this place on do this, each in turn, and none has a cause
 abbrev pub AreRead : Registry → ℕ → List (List ℕ) → List Role → Type 0

@@ -2,7 +2,7 @@
 use Rattle.std.proofs.Common.{◌≡◌, ℕ, Bool, true, false, if◌then◌else◌, ◌≤◌, length, List, ◌∷◌, ◌++◌, codes, Option, Some, None, refl, sym, ◌∙◌, ap}
 use Rattle.std.specs.Prelude.{nat_eq}
 use Rattle.std.specs.Cmp.Lexicographic.{pointwise}
-use Rattle.mt_script_spec.specs.Commands.{Ask, Count, Query, Freq, Colloc, Sketch, Thes, Command, Registry, Text, Add, Generate, Asks, Grammar, Rules, Merge, Batch, Segments, Save, Load, Quit, Remove, Subcorpus, Subcount, Keywords, Partner, Header, Lone, TextHead, RulesHead, BatchHead, HasAskForm, HasLoneForm, HasForm, line_limit, IsHeader, IsAsked}
+use Rattle.mt_script_spec.specs.Commands.{Ask, Count, Query, Freq, Colloc, Sketch, Thes, Command, Registry, Text, Add, Generate, Asks, Grammar, Rules, Merge, Batch, Segments, Save, Load, Quit, Remove, Subcorpus, Subcount, Keywords, Partner, Header, Lone, TextHead, RulesHead, BatchHead, HasAskForm, HasLoneForm, HasForm, line_bytes_limit, IsHeader, IsAsked}
 use Rattle.std.specs.Str.{IsUtf8}
 use Rattle.std.proofs.lemmas.Option.{none-some}
 use Rattle.mt_script.specs.declared.keyword.Keyword.{Keyword}
@@ -315,7 +315,7 @@ is_asked line seen ask same text e = record { text = text; form = asked_gives li
 pub not_asked : (line seen : List ℕ) → line ≡ seen → asked_at seen ≡ None → (ask : Ask) → IsAsked line ask → ⊥
 not_asked line seen same e ask a = none-some ask (sym e ∙ rw (← same) (asked_back ask line a.form))
 
-pub is_header : (line seen : List ℕ) (header : Header) → line ≡ seen → length line ≤ line_limit → IsUtf8 line → line_at seen ≡ Some header → IsHeader line header
+pub is_header : (line seen : List ℕ) (header : Header) → line ≡ seen → length line ≤ line_bytes_limit → IsUtf8 line → line_at seen ≡ Some header → IsHeader line header
 is_header line seen header same short text e = record { short = short; text = text; form = line_gives line header (rw same e) }
 
 pub no_header : (line seen : List ℕ) → line ≡ seen → line_at seen ≡ None → (header : Header) → IsHeader line header → ⊥

@@ -24,7 +24,7 @@ use mt_base::{Lines, List, NoMemory, Value};
 use std::alloc::Global;
 
 /// The most bytes of a command line.
-pub const LINE_LIMIT: usize = 65_536;
+pub const LINE_BYTES_LIMIT: usize = 65_536;
 
 /// A command line, before its body.
 #[derive(Debug, Drop)]
@@ -211,7 +211,7 @@ fn read_line(alloc: Global, line: &str) -> Result<Header, Unread>
 pub fn read_header(alloc: Global, line: &[u8]) -> Result<Option<Header>, NoMemory>
     ensures { IfOk result (λ found. MatchOption found ((h : spec.Header) → IsHeader line.now h → ⊥) (λ h. IsHeader line.now (header_of h))) }
 {
-    if line.len() > LINE_LIMIT {
+    if line.len() > LINE_BYTES_LIMIT {
         return Ok(None);
     }
     let Ok(line) = str::from_utf8(line) else {

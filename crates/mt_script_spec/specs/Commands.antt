@@ -264,12 +264,12 @@ HasForm (BatchHead number (Some range)) line = IsMergingBatch number range.0 ran
 -- ## Lines
 
 -- the most bytes of a command line, without its line feed and the carriage return before it
-abbrev pub line_limit : ℕ
-line_limit = 65536
+abbrev pub line_bytes_limit : ℕ
+line_bytes_limit = 65536
 
 -- a command line has one of the forms, is text and is not too long
 pub record IsHeader (line : List ℕ) (header : Header) : Type 0 where
-  pub short : length line ≤ line_limit
+  pub short : length line ≤ line_bytes_limit
   pub text : IsUtf8 line
   pub form : HasForm header line
 

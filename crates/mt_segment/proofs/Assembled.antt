@@ -7,7 +7,7 @@ use Rattle.std.proofs.lemmas.List.Sums.{sum-map, sum_by_more, sum_by_more_le, co
 use Rattle.std.proofs.lemmas.Option.{slice_get_within, get_or_from_slice_get}
 use mir.Val.{bool_byte}
 use Rattle.mt_text_spec.specs.Registries.{Registry, Attr, ValidRegistry, ValidAttr, IsBaseAt, base_attr, column_of, is_base}
-use Rattle.mt_text_spec.specs.Texts.{Text, total_tokens, tokens_limit}
+use Rattle.mt_text_spec.specs.Texts.{Text, total_tokens, corpus_tokens_limit}
 use Rattle.mt_lexicon.proofs.Renumbered.{numbers_within}
 use Rattle.mt_mapper.specs.Calls.{counted}
 use Rattle.mt_mapper.proofs.Counts.{counted_more}
@@ -177,10 +177,10 @@ module _ (images : List ℕ → List ℕ → List ℕ) (attrs : List Attr) (old 
 
 -- ---- all tables
 
-usable_from : (values : List (List ℕ)) (tables : AttrTables) → AreAttrTables None values values tables → length values ≤ tokens_limit → AreUsable tables
+usable_from : (values : List (List ℕ)) (tables : AttrTables) → AreAttrTables None values values tables → length values ≤ corpus_tokens_limit → AreUsable tables
 usable_from values tables h few = record { few = omega (arith, h.numbers.count); within = numbers_within tables.numbers values tables.lexicon h.numbers }
 
-have_bases : (registry : Registry) (corpus : List Text) (tables : List AttrTables) → ValidRegistry registry → total_tokens corpus ≤ tokens_limit → AreBaseTables registry.attrs corpus tables (length registry.attrs) →
+have_bases : (registry : Registry) (corpus : List Text) (tables : List AttrTables) → ValidRegistry registry → total_tokens corpus ≤ corpus_tokens_limit → AreBaseTables registry.attrs corpus tables (length registry.attrs) →
     All (HasBase registry.attrs tables) registry.attrs
 have_bases registry corpus tables valid few h = λ k d l.
     let its : ValidAttr registry.attrs (get_or registry.attrs k d) = valid.attrs k d l in
@@ -204,7 +204,7 @@ pub record AreFirst (registry : Registry) (corpus : List Text) (tables : List At
   pub bases : All (HasBase registry.attrs tables) registry.attrs
 
 -- where attributes and tables were read once more
-pub are_first : (registry : Registry) (corpus : List Text) (attrs : List Attr) (tables read : List AttrTables) → ValidRegistry registry → total_tokens corpus ≤ tokens_limit → attrs ≡ registry.attrs → read ≡ tables →
+pub are_first : (registry : Registry) (corpus : List Text) (attrs : List Attr) (tables read : List AttrTables) → ValidRegistry registry → total_tokens corpus ≤ corpus_tokens_limit → attrs ≡ registry.attrs → read ≡ tables →
     AreBaseTables attrs corpus tables (length attrs) → AreFirst registry corpus read
 are_first registry corpus attrs tables read valid few e f h =
     let made : AreBaseTables registry.attrs corpus read (length registry.attrs) = rw f (subst (λ (xs : List Attr). AreBaseTables xs corpus tables (length xs)) e h) in

@@ -4,7 +4,7 @@ use Rattle.std.specs.Prelude.{filter, is_none, is_some}
 use Rattle.std.proofs.lemmas.List.{length-map, length-drop, get_or-map, same_lists, drop_more, take_more, take_all}
 use Rattle.std.proofs.lemmas.Simd.{map-map}
 use Rattle.mt_text_spec.specs.Registries.{Registry, Attr, base_attr}
-use Rattle.mt_text_spec.specs.Texts.{Text, total_tokens, tokens_limit}
+use Rattle.mt_text_spec.specs.Texts.{Text, total_tokens, corpus_tokens_limit}
 use Rattle.mt_segment_spec.specs.Tables.{Tables, AttrTables, Instance, AreTablesUnder, HaveParts, tables_at}
 use Rattle.mt_segment.specs.Joined.{AreJoined, HasNumbers, TakesNumbers}
 
@@ -148,7 +148,7 @@ joined_from registry t texts lexicons columns mapped postings structs under h = 
   postings_are = h.postings_are;
 }
 
-pub tokens_fit : (registry : Registry) (t : Tables) (texts : List (List ℕ × ℕ)) → AreTablesUnder registry t → texts ≡ t.texts → sum (map (λ (head : List ℕ × ℕ). head.1) texts) ≤ tokens_limit
+pub tokens_fit : (registry : Registry) (t : Tables) (texts : List (List ℕ × ℕ)) → AreTablesUnder registry t → texts ≡ t.texts → sum (map (λ (head : List ℕ × ℕ). head.1) texts) ≤ corpus_tokens_limit
 tokens_fit registry t texts under e =
     let all : sum (map (λ (head : List ℕ × ℕ). head.1) texts) ≡ total_tokens under.corpus =
     ap (λ (heads : List (List ℕ × ℕ)). sum (map (λ head. head.1) heads)) (e ∙ under.are.texts)

@@ -3,7 +3,7 @@
 ghost use Rattle.std.specs.Prelude.{◌≡◌, ℕ, ◌<◌, ◌≤◌, None, Some, length, map, sum, IfOk, OnOk, OnErr};
 ghost use Rattle.std.specs.List.{All, Contains};
 ghost use Rattle.mt_text_spec.specs.Registries.{ValidRegistry};
-ghost use Rattle.mt_text_spec.specs.Texts.{ValidCorpus, text_limit, texts_limit, tokens_limit, total_tokens};
+ghost use Rattle.mt_text_spec.specs.Texts.{ValidCorpus, text_tokens_limit, corpus_texts_limit, corpus_tokens_limit, total_tokens};
 ghost use Rattle.mt_segment_spec.specs.Tables as spec;
 ghost use Rattle.mt_segment_spec.specs.Tables.{AreAttrTables, AreTablesOf, column_values, heads_of, tables_at};
 ghost use Rattle.mt_segment.specs.Building.{AreAllMapped, AreBaseTables, AreInstances, AreUsable, HasBase, IsMappedAt};
@@ -50,7 +50,7 @@ impl Segment {
 
 /// The names and lengths of texts.
 fn heads(alloc: Global, texts: &[Text]) -> Result<List<(Value, u32)>, NoMemory>
-    requires { All (λ text. length text.tokens ≤ text_limit) texts.now }
+    requires { All (λ text. length text.tokens ≤ text_tokens_limit) texts.now }
     ensures { IfOk result (λ heads. heads ≡ heads_of texts.now) }
 {
     let mut heads = List::with_capacity(alloc, texts.len())?;
@@ -81,7 +81,7 @@ fn all_base_tables(
     attrs: &[Attr],
     tokens: usize,
 ) -> Result<Vec<AttrTables>, NoMemory>
-    requires { total_tokens texts.now ≤ tokens_limit }
+    requires { total_tokens texts.now ≤ corpus_tokens_limit }
     ensures { IfOk result (λ tables. AreBaseTables attrs.now texts.now tables.items (length attrs.now)) }
 {
     let mut tables = Vec::with_capacity(alloc, attrs.len())?;
@@ -101,7 +101,7 @@ fn first_tables(
     column: usize,
     tokens: usize,
 ) -> Result<AttrTables, NoMemory>
-    requires { total_tokens texts.now ≤ tokens_limit }
+    requires { total_tokens texts.now ≤ corpus_tokens_limit }
     ensures { IfOk result (λ tables. attr.now.base ≡ None → AreAttrTables None (column_values column texts.now) (column_values column texts.now) tables) }
 {
     match attr.base() {
@@ -180,7 +180,7 @@ fn all_instances(
     texts: &[Text],
     kinds: u16,
 ) -> Result<List<List<SegStruct>>, NoMemory>
-    requires { length texts.now ≤ texts_limit }
+    requires { length texts.now ≤ corpus_texts_limit }
     ensures { IfOk result (λ all. AreInstances texts.now all kinds) }
 {
     let mut all = List::with_capacity(alloc, kinds as usize)?;

@@ -1,7 +1,7 @@
 //! The tables of base attributes.
 
 ghost use Rattle.std.specs.Prelude.{◌≡◌, ◌+◌, ◌-◌, ◌^◌, ◌<◌, ◌≤◌, ◌++◌, length, map, None, IfOk, OnOk};
-ghost use Rattle.mt_text_spec.specs.Texts.{total_tokens, tokens_limit, value_of};
+ghost use Rattle.mt_text_spec.specs.Texts.{total_tokens, corpus_tokens_limit, value_of};
 ghost use Rattle.mt_segment_spec.specs.Tables.{AreAttrTables, column_values};
 
 use super::inverting::postings_of;
@@ -17,7 +17,7 @@ pub(crate) fn base_tables(
     column: usize,
     tokens: usize,
 ) -> Result<AttrTables, NoMemory>
-    requires { total_tokens texts.now ≤ tokens_limit }
+    requires { total_tokens texts.now ≤ corpus_tokens_limit }
     ensures { IfOk result (λ tables. AreAttrTables None (column_values column texts.now) (column_values column texts.now) tables) }
 {
     let mut numbering = Numbering::new(alloc, tokens)?;

@@ -3,8 +3,8 @@ use Rattle.std.specs.Prelude.{ℕ, ◌≡◌, ◌<◌, ◌≤◌, List, length, 
 use Rattle.mt_shelf_spec.specs.Files.{Files}
 
 -- the most bytes of a file that a command reads whole
-abbrev pub file_limit : ℕ
-file_limit = 67108864
+abbrev pub file_bytes_limit : ℕ
+file_bytes_limit = 67108864
 
 -- there is no such file
 abbrev pub IsAbsent : Files → List ℕ → Type 0
@@ -14,9 +14,9 @@ IsAbsent files name = files name ≡ None
 pub record IsTooLong (files : Files) (name : List ℕ) : Type 0 where
   pub bytes : List ℕ
   pub found : files name ≡ Some bytes
-  pub long : file_limit < length bytes
+  pub long : file_bytes_limit < length bytes
 
 -- the file has these bytes, and they are few enough
 pub record IsFile (files : Files) (name bytes : List ℕ) : Type 0 where
   pub found : files name ≡ Some bytes
-  pub short : length bytes ≤ file_limit
+  pub short : length bytes ≤ file_bytes_limit

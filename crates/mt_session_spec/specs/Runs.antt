@@ -7,8 +7,8 @@ use Rattle.mt_shelf_spec.specs.Files.{Files}
 use Rattle.mt_session_spec.specs.Replies.{Known, first_known, Replies, NoQuit}
 
 -- the most bytes of a script
-abbrev pub script_limit : ℕ
-script_limit = 268435456
+abbrev pub script_bytes_limit : ℕ
+script_bytes_limit = 268435456
 
 -- what the sink holds, the files that the shelf keeps where it tells them, and the names at which calls of the shelf failed
 pub record Outside : Type 0 where
@@ -68,7 +68,7 @@ pub record AnsweredInPart (ended : Bool) (bytes : List ℕ) (start : Outside) (e
 -- The source was read to its end, and all is answered.
 pub record EndsAtEnd (input : List ℕ) (left : Option (List ℕ)) (start : Outside) (end : Seen) : Type 0 where
   pub none_left : left ≡ Some []
-  pub short : length input ≤ script_limit
+  pub short : length input ≤ script_bytes_limit
   pub answered : Answered true input start end
 
 -- A `quit` was read, and all up to it is answered.
@@ -79,7 +79,7 @@ pub record EndsAtQuit (input : List ℕ) (left : Option (List ℕ)) (start : Out
   pub are : input ≡ taken ++ back
   pub rest : left ≡ Some back
   pub whole : ended ≡ true → back ≡ []
-  pub short : length taken ≤ script_limit
+  pub short : length taken ≤ script_bytes_limit
   pub answered : AnsweredToQuit ended taken start end
 
 -- Done
@@ -92,7 +92,7 @@ pub record EndsWithFault (input : List ℕ) (left : Option (List ℕ)) (start : 
   pub back : List ℕ
   pub are : input ≡ taken ++ back
   pub rest : left ≡ Some back
-  pub short : length taken ≤ script_limit
+  pub short : length taken ≤ script_bytes_limit
   pub answered : Answered false taken start end
 
 -- a script that is too long: the bytes up to the limit are answered and hold no whole `quit`, and one more was taken
@@ -102,7 +102,7 @@ pub record EndsTooLong (input : List ℕ) (left : Option (List ℕ)) (start : Ou
   pub back : List ℕ
   pub are : input ≡ taken ++ more ∷ back
   pub rest : left ≡ Some back
-  pub full : length taken ≡ script_limit
+  pub full : length taken ≡ script_bytes_limit
   pub answered : Answered false taken start end
 
 -- a fault of the sink or want of memory: what was written is a front of the replies to the first items of what was taken
@@ -113,5 +113,5 @@ pub record EndsInPart (input : List ℕ) (left : Option (List ℕ)) (start : Out
   pub are : input ≡ taken ++ back
   pub rest : left ≡ Some back
   pub whole : ended ≡ true → back ≡ []
-  pub short : length taken ≤ script_limit
+  pub short : length taken ≤ script_bytes_limit
   pub answered : AnsweredInPart ended taken start end

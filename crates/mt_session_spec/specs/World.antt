@@ -2,7 +2,7 @@
 use Rattle.std.specs.Prelude.{ℕ, ◌≡◌, ◌+◌, ◌<◌, ◌≤◌, ◌⊎◌, Bool, true, false, List, [], ◌∷◌, ◌++◌, length, map, Option, None}
 use Rattle.std.specs.List.{Any, filter, flat_map}
 use Rattle.mt_text_spec.specs.Registries.{Registry, standard_registry}
-use Rattle.mt_text_spec.specs.Texts.{Text, total_tokens, texts_limit, tokens_limit}
+use Rattle.mt_text_spec.specs.Texts.{Text, total_tokens, corpus_texts_limit, corpus_tokens_limit}
 use Rattle.mt_text_spec.specs.Queries.{Grammar}
 use Rattle.mt_shelf_spec.specs.Files.{Files}
 
@@ -44,7 +44,7 @@ Holds held name = Any (λ text. text.name ≡ name) (corpus_of held.groups)
 
 -- there is no room for a text of so many tokens: removed texts take room too
 abbrev pub IsFull : List Group → ℕ → Type 0
-IsFull groups tokens = (texts_limit ≤ length (kept_texts groups)) ⊎ (tokens_limit < total_tokens (kept_texts groups) + tokens)
+IsFull groups tokens = (corpus_texts_limit ≤ length (kept_texts groups)) ⊎ (corpus_tokens_limit < total_tokens (kept_texts groups) + tokens)
 
 -- a text that is added is a group of its own, behind the others
 abbrev pub alone : Text → Group

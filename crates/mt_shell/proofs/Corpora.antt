@@ -8,7 +8,7 @@ use Rattle.std.proofs.lemmas.List.{map-append}
 use Rattle.std.proofs.lemmas.List.Sums.{sum-map, sum_by-append}
 use Rattle.std.proofs.lemmas.List.Folds.{Any-from_list_any, list_any-from_Any}
 use Rattle.std.proofs.lemmas.Slice.Eq.{bytes_eq-Decides}
-use Rattle.mt_text_spec.specs.Texts.{Text, total_tokens, texts_limit, tokens_limit}
+use Rattle.mt_text_spec.specs.Texts.{Text, total_tokens, corpus_texts_limit, corpus_tokens_limit}
 use Rattle.mt_session_spec.specs.World.{Group, alone, corpus_of, kept_texts, IsFull}
 use Rattle.mt_shell.specs.Corpora.{text_names, HasName, AreKept}
 
@@ -58,17 +58,17 @@ pub is_le : (a b : ℕ) → a ≤ b → nat_le a b ≡ true
 is_le a b h = grind (arith, common_steps)
 
 -- so many texts are full
-pub many_are_full : (texts : List Text) (groups : List Group) (tokens : ℕ) (result : Bool) → groups ≡ map alone texts → texts_limit ≤ length texts → result ≡ true → IsTrue result ↔ IsFull groups tokens
+pub many_are_full : (texts : List Text) (groups : List Group) (tokens : ℕ) (result : Bool) → groups ≡ map alone texts → corpus_texts_limit ≤ length texts → result ≡ true → IsTrue result ↔ IsFull groups tokens
 many_are_full texts groups tokens result g many e =
     let all : kept_texts groups ≡ texts = ap kept_texts g ∙ kept_alone texts in
     (λ h. inl (rw all many), λ h. e)
 
 -- else the tokens decide
-pub tokens_decide : (texts : List Text) (groups : List Group) (tokens held : ℕ) → groups ≡ map alone texts → (texts_limit ≤ length texts → ⊥) → held ≡ total_tokens texts → held ≤ tokens_limit →
-    IsTrue (nat_lt (tokens_limit - held) tokens) ↔ IsFull groups tokens
+pub tokens_decide : (texts : List Text) (groups : List Group) (tokens held : ℕ) → groups ≡ map alone texts → (corpus_texts_limit ≤ length texts → ⊥) → held ≡ total_tokens texts → held ≤ corpus_tokens_limit →
+    IsTrue (nat_lt (corpus_tokens_limit - held) tokens) ↔ IsFull groups tokens
 tokens_decide texts groups tokens held g few e short =
     let all : kept_texts groups ≡ texts = ap kept_texts g ∙ kept_alone texts in
-    rw (all, ← e) (λ h. inr (let low : tokens_limit - held < tokens = by_lt (tokens_limit - held) tokens h in omega arith), λ h. from h)
+    rw (all, ← e) (λ h. inr (let low : corpus_tokens_limit - held < tokens = by_lt (corpus_tokens_limit - held) tokens h in omega arith), λ h. from h)
   where
     by_lt : (a b : ℕ) → IsTrue (nat_lt a b) → a < b
     by_lt a b h = grind (arith, common_steps)
@@ -76,27 +76,27 @@ tokens_decide texts groups tokens held g few e short =
     to_lt : (a b : ℕ) → a < b → IsTrue (nat_lt a b)
     to_lt a b h = grind (arith, common_steps)
 
-    from : (texts_limit ≤ length texts) ⊎ (tokens_limit < held + tokens) → IsTrue (nat_lt (tokens_limit - held) tokens)
+    from : (corpus_texts_limit ≤ length texts) ⊎ (corpus_tokens_limit < held + tokens) → IsTrue (nat_lt (corpus_tokens_limit - held) tokens)
     from (inl many) = absurd (few many)
-    from (inr much) = to_lt (tokens_limit - held) tokens (omega arith)
+    from (inr much) = to_lt (corpus_tokens_limit - held) tokens (omega arith)
 
 room_left : (texts : List Text) (text : Text) (groups : List Group) → groups ≡ map alone texts → (IsFull groups (length text.tokens) → ⊥) →
-    (length texts < texts_limit) × (total_tokens texts + length text.tokens ≤ tokens_limit)
+    (length texts < corpus_texts_limit) × (total_tokens texts + length text.tokens ≤ corpus_tokens_limit)
 room_left texts text groups g room =
     let all : kept_texts groups ≡ texts = ap kept_texts g ∙ kept_alone texts in
-    (by (cases_lt (length texts) texts_limit) all, by2 (cases_lt tokens_limit (total_tokens texts + length text.tokens)) all)
+    (by (cases_lt (length texts) corpus_texts_limit) all, by2 (cases_lt corpus_tokens_limit (total_tokens texts + length text.tokens)) all)
   where
-    by : (length texts < texts_limit) ⊎ (texts_limit ≤ length texts) → kept_texts groups ≡ texts → length texts < texts_limit
+    by : (length texts < corpus_texts_limit) ⊎ (corpus_texts_limit ≤ length texts) → kept_texts groups ≡ texts → length texts < corpus_texts_limit
     by (inl low) all = low
     by (inr high) all = absurd (room (inl (rw all high)))
 
-    by2 : (tokens_limit < total_tokens texts + length text.tokens) ⊎ (total_tokens texts + length text.tokens ≤ tokens_limit) → kept_texts groups ≡ texts → total_tokens texts + length text.tokens ≤ tokens_limit
+    by2 : (corpus_tokens_limit < total_tokens texts + length text.tokens) ⊎ (total_tokens texts + length text.tokens ≤ corpus_tokens_limit) → kept_texts groups ≡ texts → total_tokens texts + length text.tokens ≤ corpus_tokens_limit
     by2 (inl much) all = absurd (room (inr (rw all much)))
     by2 (inr low) all = low
 
 -- there is room for the sum
 pub sum_fits : (texts : List Text) (text : Text) (groups : List Group) (held : ℕ) → groups ≡ map alone texts → held ≡ total_tokens texts → (IsFull groups (length text.tokens) → ⊥) →
-    held + length text.tokens ≤ tokens_limit
+    held + length text.tokens ≤ corpus_tokens_limit
 sum_fits texts text groups held g e room = rw e ((room_left texts text groups g room).1)
 
 -- one text more
@@ -109,9 +109,9 @@ one_text_more texts new text groups name names more held tokens g k free room n 
     let total : tokens ≡ total_tokens new = sum_is ∙ ap (λ m. m + length text.tokens) k.counted ∙ sym (total_more texts text) ∙ ap total_tokens (sym is) in
     record {
       named = names_are (list_any (bytes_eq text.name) (text_names texts)) refl;
-      few = let low : length texts < texts_limit = left.0 in omega arith;
+      few = let low : length texts < corpus_texts_limit = left.0 in omega arith;
       counted = total;
-      short = let low : total_tokens texts + length text.tokens ≤ tokens_limit = left.1 in let e : held ≡ total_tokens texts = k.counted in omega arith;
+      short = let low : total_tokens texts + length text.tokens ≤ corpus_tokens_limit = left.1 in let e : held ≡ total_tokens texts = k.counted in omega arith;
     }
   where
     names_are : (b : Bool) → list_any (bytes_eq text.name) (text_names texts) ≡ b → more ≡ text_names new

@@ -12,7 +12,7 @@ use Rattle.mt_script_spec.specs.Commands.{Quit}
 use Rattle.mt_script_spec.specs.Script.{Given, Nothing, IsRest}
 use Rattle.mt_session_spec.specs.World.{Held, first_held}
 use Rattle.mt_session_spec.specs.Replies.{first_known}
-use Rattle.mt_session_spec.specs.Runs.{Outside, Seen, script_limit, EndsWell, EndsWithFault, EndsTooLong, EndsInPart}
+use Rattle.mt_session_spec.specs.Runs.{Outside, Seen, script_bytes_limit, EndsWell, EndsWithFault, EndsTooLong, EndsInPart}
 use Rattle.mt_script.proofs.Items.{then_begins}
 use Rattle.mt_shell.specs.declared.top.Status.{Status}
 use Rattle.mt_shell.specs.declared.top.Status.TheVariants.{Done, Usage, SourceFault, SinkFault, ScriptTooLong, NoMemory}
@@ -93,7 +93,7 @@ read_on input buf piece wait still n taken more mid new start left left' at end 
 
 -- in part, after a piece more
 pub ends_in_part : (input buf piece wait : List ℕ) (n taken : ℕ) (mid : Held) (start : Outside) (left left' : Option (List ℕ)) (at end : Seen) → ReadsOn input left taken wait mid start at →
-    Told left (λ all. Takes all n buf left') → piece ≡ take n buf → taken + n ≤ script_limit → Tells at (λ here. ProgressInPart false (wait ++ piece) mid here end) →
+    Told left (λ all. Takes all n buf left') → piece ≡ take n buf → taken + n ≤ script_bytes_limit → Tells at (λ here. ProgressInPart false (wait ++ piece) mid here end) →
     EndsInPart input left' start end
 ends_in_part input buf piece wait n taken mid start left left' at end r told e low on =
     let k = told r.back r.rest in
@@ -125,7 +125,7 @@ ends_in_part input buf piece wait n taken mid start left left' at end r told e l
 
 -- at a `quit`, after a piece more
 pub ends_at_quit : (input buf piece wait : List ℕ) (n taken : ℕ) (mid : Held) (start : Outside) (left left' : Option (List ℕ)) (at end : Seen) → ReadsOn input left taken wait mid start at →
-    Told left (λ all. Takes all n buf left') → piece ≡ take n buf → taken + n ≤ script_limit → Tells at (λ here. ProgressToQuit false (wait ++ piece) mid here end) →
+    Told left (λ all. Takes all n buf left') → piece ≡ take n buf → taken + n ≤ script_bytes_limit → Tells at (λ here. ProgressToQuit false (wait ++ piece) mid here end) →
     EndsWell input left' start end
 ends_at_quit input buf piece wait n taken mid start left left' at end r told e low on =
     let k = told r.back r.rest in
@@ -156,7 +156,7 @@ ends_at_quit input buf piece wait n taken mid start left left' at end r told e l
 
 -- a fault of the source
 pub ends_with_fault : (input wait : List ℕ) (taken : ℕ) (mid : Held) (start : Outside) (left left' : Option (List ℕ)) (at : Seen) → ReadsOn input left taken wait mid start at → IsRest false wait →
-    taken ≤ script_limit → left' ≡ left → EndsWithFault input left' start at
+    taken ≤ script_bytes_limit → left' ≡ left → EndsWithFault input left' start at
 ends_with_fault input wait taken mid start left left' at r rest low same =
     let p = r.progress in
     let count : length r.front ≡ taken = r.count in
@@ -175,7 +175,7 @@ cut_one (b ∷ bs) n ne low h = let e : n ≡ 1 = omega arith in (b, rw e refl)
 
 -- one byte too many
 pub ends_too_long : (input buf wait : List ℕ) (n taken : ℕ) (mid : Held) (start : Outside) (left left' : Option (List ℕ)) (at : Seen) → ReadsOn input left taken wait mid start at → IsRest false wait →
-    taken ≡ script_limit → Told left (λ all. Takes all n buf left') → n ≢ 0 → n ≤ 1 → EndsTooLong input left' start at
+    taken ≡ script_bytes_limit → Told left (λ all. Takes all n buf left') → n ≢ 0 → n ≤ 1 → EndsTooLong input left' start at
 ends_too_long input buf wait n taken mid start left left' at r rest full told ne low =
     let p = r.progress in
     let k = told r.back r.rest in
@@ -190,7 +190,7 @@ ends_too_long input buf wait n taken mid start left left' at r rest full told ne
       answered = record { items = p.items; rest = wait; failed = p.failed; output = p.output; last = record { held = mid; files = p.stored }; read = record { begins = p.taken; rests = rest }; no_quit = p.no_quit; replies = p.replies; leaves = p.leaves };
     }
 
-pub is_long : (input buf : List ℕ) (n taken : ℕ) (left left' : Option (List ℕ)) → Took input left taken → taken ≡ script_limit → Told left (λ all. Takes all n buf left') → n ≢ 0 → script_limit < length input
+pub is_long : (input buf : List ℕ) (n taken : ℕ) (left left' : Option (List ℕ)) → Took input left taken → taken ≡ script_bytes_limit → Told left (λ all. Takes all n buf left') → n ≢ 0 → script_bytes_limit < length input
 is_long input buf n taken left left' t full told ne =
     let k = told t.back t.rest in
     let some : n ≤ length t.back = k.count in
@@ -202,7 +202,7 @@ is_long input buf n taken left left' t full told ne =
 at_end : (input front back : List ℕ) → input ≡ front ++ back → back ≡ [] → front ≡ input
 at_end input front back e n = rw (e, n) (sym (append-nil front))
 
-well : (input wait : List ℕ) (mid new : Held) (start : Outside) (left : Option (List ℕ)) (at end : Seen) → left ≡ Some [] → length input ≤ script_limit → Progress false input wait first_held mid start at →
+well : (input wait : List ℕ) (mid new : Held) (start : Outside) (left : Option (List ℕ)) (at end : Seen) → left ≡ Some [] → length input ≤ script_bytes_limit → Progress false input wait first_held mid start at →
     Tells at (λ here. Progress true wait [] mid new here end ⊎ ProgressToQuit true wait mid here end) → EndsWell input left start end
 well input wait mid new start left at end l short p told = by (told (moved start p.output p.stored p.failed) (told_after start p.output p.stored p.failed at p.leaves))
   where
@@ -243,7 +243,7 @@ well input wait mid new start left at end l short p told = by (told (moved start
       };
     })
 
-in_part : (input wait : List ℕ) (mid : Held) (start : Outside) (left : Option (List ℕ)) (at end : Seen) → left ≡ Some [] → length input ≤ script_limit → Progress false input wait first_held mid start at →
+in_part : (input wait : List ℕ) (mid : Held) (start : Outside) (left : Option (List ℕ)) (at end : Seen) → left ≡ Some [] → length input ≤ script_bytes_limit → Progress false input wait first_held mid start at →
     Tells at (λ here. ProgressInPart true wait mid here end) → EndsInPart input left start end
 in_part input wait mid start left at end l short p told =
     let q = told (moved start p.output p.stored p.failed) (told_after start p.output p.stored p.failed at p.leaves) in
@@ -269,7 +269,7 @@ in_part input wait mid start left at end l short p told =
       };
     }
 
-finished : (status : Status) (input wait : List ℕ) (mid new : Held) (start : Outside) (left : Option (List ℕ)) (at end : Seen) → left ≡ Some [] → length input ≤ script_limit →
+finished : (status : Status) (input wait : List ℕ) (mid new : Held) (start : Outside) (left : Option (List ℕ)) (at end : Seen) → left ≡ Some [] → length input ≤ script_bytes_limit →
     Progress false input wait first_held mid start at → Tells at (λ here. FinishesAs status wait mid new here end) → EndsAs status input left start end
 finished Done input wait mid new start left at end l short p told = well input wait mid new start left at end l short p told
 finished Usage input wait mid new start left at end l short p told = absurd (told (moved start p.output p.stored p.failed) (told_after start p.output p.stored p.failed at p.leaves))
@@ -283,13 +283,13 @@ none_left n back e z = rw (e, z) refl
 
 -- where the source is at its end
 pub ends_at_end : (status : Status) (input buf wait : List ℕ) (n taken : ℕ) (mid new : Held) (start : Outside) (left left' : Option (List ℕ)) (at end : Seen) → ReadsOn input left taken wait mid start at →
-    Told left (λ all. Takes all n buf left') → n ≡ 0 → length buf ≢ 0 → taken ≤ script_limit → Tells at (λ here. FinishesAs status wait mid new here end) → EndsAs status input left' start end
+    Told left (λ all. Takes all n buf left') → n ≡ 0 → length buf ≢ 0 → taken ≤ script_bytes_limit → Tells at (λ here. FinishesAs status wait mid new here end) → EndsAs status input left' start end
 ends_at_end status input buf wait n taken mid new start left left' at end r told z ne low on =
     let k = told r.back r.rest in
     let none : r.back ≡ [] = k.end z ne in
     let is : r.front ≡ input = at_end input r.front r.back r.are none in
     let count : length r.front ≡ taken = r.count in
-    let short : length input ≤ script_limit = rw (← is) (omega arith) in
+    let short : length input ≤ script_bytes_limit = rw (← is) (omega arith) in
     let p : Progress false input wait first_held mid start at = let P : List ℕ → Type 0 = λ s. Progress false s wait first_held mid start at in subst P is r.progress in
     finished status input wait mid new start left' at end (k.rest ∙ ap Some (none_left n r.back none z)) short p on
 
@@ -347,7 +347,7 @@ untold_start input left start at l t = record {
 }
 
 pub complete_by : (status : Status) (input : List ℕ) (source source' sink sink' : ℕ) → HasCause status source source' sink sink' → HasLength status input → (Rose source source' → ⊥) →
-    (Rose sink sink' → ⊥) → length input ≤ script_limit → (status ≡ Done) ⊎ (status ≡ NoMemory)
+    (Rose sink sink' → ⊥) → length input ≤ script_bytes_limit → (status ≡ Done) ⊎ (status ≡ NoMemory)
 complete_by Done input source source' sink sink' c l a b short = inl refl
 complete_by Usage input source source' sink sink' c l a b short = absurd c
 complete_by SourceFault input source source' sink sink' c l a b short = absurd (a c)

@@ -4,7 +4,7 @@ use Rattle.mt_shelf_spec.specs.Files.{Files, no_files}
 use Rattle.mt_script_spec.specs.Commands.{Command, Quit}
 use Rattle.mt_session_spec.specs.World.{World}
 use Rattle.mt_session_spec.specs.Refusals.{Refusal, rank, failure_rank}
-use Rattle.mt_session_spec.specs.Files.{IsAbsent, IsTooLong, IsFile, file_limit}
+use Rattle.mt_session_spec.specs.Files.{IsAbsent, IsTooLong, IsFile, file_bytes_limit}
 use Rattle.mt_session_spec.specs.Steps.{Refuses, IsRefused, Declined, Loads}
 use Rattle.mt_shell.specs.declared.session.Reply.{Reply}
 use Rattle.mt_shell.specs.declared.session.Reply.TheVariants.{Lines, Last, NoMemory}
@@ -79,6 +79,6 @@ not_absent files file bytes e n = let h : Some bytes ≡ None = sym e ∙ n in c
 pub not_long : (files : Files) (file bytes : List ℕ) → IsFile files file bytes → IsTooLong files file → ⊥
 not_long files file bytes f l =
     let e = same_bytes files file bytes l.bytes f.found l.found in
-    let long : file_limit < length bytes = rw e l.long in
-    let short : length bytes ≤ file_limit = f.short in
+    let long : file_bytes_limit < length bytes = rw e l.long in
+    let short : length bytes ≤ file_bytes_limit = f.short in
     omega arith

@@ -2,7 +2,7 @@
 use Rattle.std.specs.Prelude.{ℕ, ◌≡◌, ◌<◌, ◌⊎◌, true, false, List, [], ◌++◌, length, Option, Some}
 use Rattle.mt_outside.specs.Faults.{Rose}
 use Rattle.mt_session_spec.specs.World.{Held, first_held}
-use Rattle.mt_session_spec.specs.Runs.{Outside, Seen, script_limit, EndsWell, EndsWithFault, EndsTooLong, EndsInPart}
+use Rattle.mt_session_spec.specs.Runs.{Outside, Seen, script_bytes_limit, EndsWell, EndsWithFault, EndsTooLong, EndsInPart}
 use Rattle.mt_shell.specs.declared.top.Status.{Status}
 use Rattle.mt_shell.specs.declared.top.Status.TheVariants.{Done, Usage, SourceFault, SinkFault, ScriptTooLong, NoMemory}
 use Rattle.mt_shell.specs.Reads.{Progress, ProgressToQuit, ProgressInPart}
@@ -31,7 +31,7 @@ HasLength Done input = Unit {0}
 HasLength Usage input = ⊥
 HasLength SourceFault input = Unit {0}
 HasLength SinkFault input = Unit {0}
-HasLength ScriptTooLong input = script_limit < length input
+HasLength ScriptTooLong input = script_bytes_limit < length input
 HasLength NoMemory input = Unit {0}
 
 -- So many bytes of the input were taken.

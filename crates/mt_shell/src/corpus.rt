@@ -10,10 +10,10 @@ use std::alloc::Global;
 use std::marker::Model;
 
 /// The most texts.
-const TEXTS_LIMIT: usize = 65_536;
+const CORPUS_TEXTS_LIMIT: usize = 65_536;
 
 /// The most tokens of all texts.
-const TOKENS_LIMIT: usize = 4_194_304;
+const CORPUS_TOKENS_LIMIT: usize = 4_194_304;
 
 /// The texts that are held, in order, each a group of its own, seen as the list of the groups. It knows the names by a table, and keeps the number of tokens.
 #[derive(Drop)]
@@ -67,7 +67,7 @@ impl Corpus {
     pub fn is_full(&self, tokens: usize) -> bool
         ensures { IsTrue result ↔ IsFull self.now tokens }
     {
-        self.texts.len() >= TEXTS_LIMIT || tokens > TOKENS_LIMIT - self.tokens
+        self.texts.len() >= CORPUS_TEXTS_LIMIT || tokens > CORPUS_TOKENS_LIMIT - self.tokens
     }
 
     /// Adds a text behind the others. Without memory nothing changes.

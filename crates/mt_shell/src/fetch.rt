@@ -10,7 +10,7 @@ use mt_outside::{Loaded, Shelf, ShelfError};
 use std::alloc::Global;
 
 /// The most bytes of a file.
-const FILE_LIMIT: u32 = 67_108_864;
+const FILE_BYTES_LIMIT: u32 = 67_108_864;
 
 /// What a command finds of a file.
 #[derive(Debug, Drop)]
@@ -34,7 +34,7 @@ pub fn fetch<F: Shelf>(alloc: Global, file: &str, shelf: &mut F) -> Fetched
     ensures failed { F.failed shelf.new ≡ F.failed shelf.old ++ failures file.now result }
 {
     let mut bytes = List::new(alloc);
-    match shelf.load(alloc, file, FILE_LIMIT, &mut bytes) {
+    match shelf.load(alloc, file, FILE_BYTES_LIMIT, &mut bytes) {
         Ok(Loaded::Whole) => Fetched::Whole(bytes),
         Ok(Loaded::Absent) => Fetched::Absent,
         Ok(Loaded::TooLong) => Fetched::TooLong,

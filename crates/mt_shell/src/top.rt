@@ -3,7 +3,7 @@
 ghost use Rattle.std.specs.Prelude.{◌≡◌, ◌≢◌, ◌≤◌, ◌<◌, ◌⊎◌, ◌↔◌, [], length, false, IsTrue};
 ghost use Rattle.mt_outside.specs.Told.{Told};
 ghost use Rattle.mt_outside.specs.Faults.{Rose};
-ghost use Rattle.mt_session_spec.specs.Runs.{script_limit, EndsWell, EndsWithFault, EndsTooLong, EndsInPart};
+ghost use Rattle.mt_session_spec.specs.Runs.{script_bytes_limit, EndsWell, EndsWithFault, EndsTooLong, EndsInPart};
 ghost use Rattle.mt_session_spec.specs.World.{first_held};
 ghost use Rattle.mt_shell.specs.Sessions.{held_of};
 ghost use Rattle.mt_shell.specs.Reads.{seen, outside, Tells};
@@ -32,7 +32,7 @@ pub enum Status {
 }
 
 /// The most bytes of a script.
-pub const SCRIPT_LIMIT: usize = 268_435_456;
+pub const SCRIPT_BYTES_LIMIT: usize = 268_435_456;
 
 /// So many bytes are read at once.
 const BLOCK: usize = 65_536;
@@ -60,7 +60,7 @@ pub fn run<S: Source, K: Sink, F: Shelf>(
     ensures sink_failed { result ≡ Status.SinkFault → Rose (K.faults sink.old) (K.faults sink.new) }
     ensures sink_fault { result ≡ Status.SinkFault → Told (S.left source.old) (λ input. Told (K.held sink.old) (λ written.
         EndsInPart input (S.left source.new) (outside written (F.files shelf.old) (F.failed shelf.old)) (seen (K.held sink.new) (F.files shelf.new) (F.failed shelf.new)))) }
-    ensures is_long { result ≡ Status.ScriptTooLong → Told (S.left source.old) (λ input. script_limit < length input) }
+    ensures is_long { result ≡ Status.ScriptTooLong → Told (S.left source.old) (λ input. script_bytes_limit < length input) }
     ensures too_long { result ≡ Status.ScriptTooLong → Told (S.left source.old) (λ input. Told (K.held sink.old) (λ written.
         EndsTooLong input (S.left source.new) (outside written (F.files shelf.old) (F.failed shelf.old)) (seen (K.held sink.new) (F.files shelf.new) (F.failed shelf.new)))) }
     ensures no_memory { result ≡ Status.NoMemory → Told (S.left source.old) (λ input. Told (K.held sink.old) (λ written.
@@ -68,7 +68,7 @@ pub fn run<S: Source, K: Sink, F: Shelf>(
 
     // With good words, no fault and a script that is not too long the run is done, or memory was wanted.
     ensures complete { AreGood words.now → (Rose (S.faults source.old) (S.faults source.new) → ⊥) → (Rose (K.faults sink.old) (K.faults sink.new) → ⊥) →
-        Told (S.left source.old) (λ input. length input ≤ script_limit → (result ≡ Status.Done) ⊎ (result ≡ Status.NoMemory)) }
+        Told (S.left source.old) (λ input. length input ≤ script_bytes_limit → (result ≡ Status.Done) ⊎ (result ≡ Status.NoMemory)) }
 {
     if !are_good(words) {
         return Status::Usage;
@@ -106,8 +106,8 @@ fn converse<S: Source, K: Sink, F: Shelf>(
     ensures size { Told (S.left source.old) (λ input. HasLength result input) }
 {
     let mut taken = 0;
-    while taken < SCRIPT_LIMIT {
-        let room = BLOCK.min(SCRIPT_LIMIT - taken);
+    while taken < SCRIPT_BYTES_LIMIT {
+        let room = BLOCK.min(SCRIPT_BYTES_LIMIT - taken);
         let Ok(n) = source.read(&mut block[..room]) else {
             return Status::SourceFault;
         };

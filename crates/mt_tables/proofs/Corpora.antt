@@ -9,12 +9,12 @@ use Rattle.std.proofs.lemmas.List.Sums.{sum-map, sum_by-le}
 use Rattle.std.specs.List.{sum_by}
 use Rattle.std.proofs.lemmas.List.Quantifiers.{all_pairs_push}
 use Rattle.mt_text_spec.specs.Registries.{Registry}
-use Rattle.mt_text_spec.specs.Texts.{Text, ValidText, ValidCorpus, text_limit, total_tokens}
+use Rattle.mt_text_spec.specs.Texts.{Text, ValidText, ValidCorpus, text_tokens_limit, total_tokens}
 
 -- texts that are not too long are not too long together
-total_short : (registry : Registry) (corpus : List Text) → All (ValidText registry) corpus → total_tokens corpus ≤ length corpus * text_limit
+total_short : (registry : Registry) (corpus : List Text) → All (ValidText registry) corpus → total_tokens corpus ≤ length corpus * text_tokens_limit
 total_short registry corpus all =
-    let few : sum_by (λ (text : Text). length text.tokens) corpus ≤ length corpus * text_limit = sum_by-le (λ (text : Text). length text.tokens) text_limit corpus (All-weaker (ValidText registry) (λ (text : Text). length text.tokens ≤ text_limit) (λ text its. its.short) corpus all) in
+    let few : sum_by (λ (text : Text). length text.tokens) corpus ≤ length corpus * text_tokens_limit = sum_by-le (λ (text : Text). length text.tokens) text_tokens_limit corpus (All-weaker (ValidText registry) (λ (text : Text). length text.tokens ≤ text_tokens_limit) (λ text its. its.short) corpus all) in
     omega (arith, few, sum-map (λ (text : Text). length text.tokens) corpus)
 
 -- no text

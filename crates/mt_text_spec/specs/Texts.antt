@@ -47,10 +47,14 @@ pub record Row : Type 0 where
 
 -- ## Valid texts
 
--- a value is UTF-8 of at most 1,024 bytes without line feed and tab
+-- the most bytes of a value
+abbrev pub value_bytes_limit : ℕ
+value_bytes_limit = 1024
+
+-- a value is UTF-8 of at most so many bytes, without line feed and tab
 pub record ValidValue (value : List ℕ) : Type 0 where
   pub text : IsUtf8 value
-  pub short : length value ≤ 1024
+  pub short : length value ≤ value_bytes_limit
   pub plain : All (λ b. (b ≢ 10) × (b ≢ 9)) value
 
 pub record ValidToken (registry : Registry) (token : Token) : Type 0 where
@@ -71,29 +75,29 @@ abbrev pub ComesBefore : StructSpan → StructSpan → Type 0
 ComesBefore span later = (span.kind < later.kind) ⊎ ((span.kind ≡ later.kind) × (span.end ≤ later.begin))
 
 -- the most tokens of a text
-abbrev pub text_limit : ℕ
-text_limit = 1048576
+abbrev pub text_tokens_limit : ℕ
+text_tokens_limit = 1048576
 
 pub record ValidText (registry : Registry) (text : Text) : Type 0 where
   pub named : IsName text.name
-  pub short : length text.tokens ≤ text_limit
+  pub short : length text.tokens ≤ text_tokens_limit
   pub tokens : All (ValidToken registry) text.tokens
   pub structs : All (ValidStructSpan registry (length text.tokens)) text.structs
   pub ordered : AllPairs ComesBefore text.structs
 
 -- the most texts of a corpus, and the most tokens of all of them
-abbrev pub texts_limit : ℕ
-texts_limit = 65536
+abbrev pub corpus_texts_limit : ℕ
+corpus_texts_limit = 65536
 
-abbrev pub tokens_limit : ℕ
-tokens_limit = 4194304
+abbrev pub corpus_tokens_limit : ℕ
+corpus_tokens_limit = 4194304
 
 -- how many tokens there are in all texts
 abbrev pub total_tokens : List Text → ℕ
 total_tokens corpus = sum (map (λ text. length text.tokens) corpus)
 
 pub record ValidCorpus (registry : Registry) (corpus : List Text) : Type 0 where
-  pub few : length corpus ≤ texts_limit
-  pub short : total_tokens corpus ≤ tokens_limit
+  pub few : length corpus ≤ corpus_texts_limit
+  pub short : total_tokens corpus ≤ corpus_tokens_limit
   pub texts : All (ValidText registry) corpus
   pub distinct : AreDistinct (map (λ text. text.name) corpus)

@@ -2,9 +2,8 @@
 use Rattle.std.proofs.Common.{◌≡◌, ℕ, zero, suc, ◌+◌, ◌-◌, ◌<◌, ◌≤◌, List, [], ◌∷◌, ◌++◌, length, get_or, replicate, refl, sym, ◌∙◌, ap, subst, arith, append_assoc}
 use Rattle.std.proofs.lemmas.Grind.{common_steps}
 use Rattle.std.proofs.lemmas.List.Elements.{All-push}
-use Rattle.mt_text_spec.specs.Texts.{StructSpan}
+use Rattle.mt_text_spec.specs.Texts.{StructSpan, value_bytes_limit}
 use Rattle.mt_file_spec.specs.VerticalLines.{first_columns}
-use Rattle.mt_file_spec.specs.Vertical.{value_limit}
 use Rattle.mt_vertical.specs.Readers.{AreShort, HasLong, Kept, ended, gathered}
 
 in_seam : (xs ys : List (List ℕ)) (x : List ℕ) → length xs < length (xs ++ x ∷ ys)
@@ -14,7 +13,7 @@ at_seam : (xs ys : List (List ℕ)) (x : List ℕ) → get_or (xs ++ x ∷ ys) (
 at_seam xs ys x = grind (arith, common_steps)
 
 -- one long value among others
-any_at : (xs ys : List (List ℕ)) (x : List ℕ) → value_limit < length x → HasLong (xs ++ x ∷ ys)
+any_at : (xs ys : List (List ℕ)) (x : List ℕ) → value_bytes_limit < length x → HasLong (xs ++ x ∷ ys)
 any_at xs ys x l = (length xs, x, in_seam xs ys x, at_seam xs ys x, l)
 
 -- the next column
@@ -30,7 +29,7 @@ column_kept count i values column old new whole l e step =
     append_assoc values (column ∷ []) (first_columns (count - (i + 1)) new) ∙ column_step count i values column old new whole l e step
 
 pub column_long : (count i : ℕ) (values : List (List ℕ)) (column : List ℕ) (old new whole : List (List ℕ)) → i < count → values ++ first_columns (count - i) old ≡ whole →
-    ((n : ℕ) → first_columns (n + 1) old ≡ column ∷ first_columns n new) → value_limit < length column → HasLong whole
+    ((n : ℕ) → first_columns (n + 1) old ≡ column ∷ first_columns n new) → value_bytes_limit < length column → HasLong whole
 column_long count i values column old new whole l e step long =
     rw (← column_step count i values column old new whole l e step) (any_at values (first_columns (count - (i + 1)) new) column long)
 
@@ -55,9 +54,9 @@ gathered_push kind place (x ∷ ks) k =
     ∙ ap (λ n. (ended kind place x).done ++ gathered (kind + 1) place ks ++ (ended n place k).done) next
 
 -- a short value more
-pub short_push : (values new : List (List ℕ)) (value column : List ℕ) → new ≡ values ++ value ∷ [] → value ≡ column → AreShort values → length column ≤ value_limit → AreShort new
+pub short_push : (values new : List (List ℕ)) (value column : List ℕ) → new ≡ values ++ value ∷ [] → value ≡ column → AreShort values → length column ≤ value_bytes_limit → AreShort new
 short_push values new value column pushed same all short =
-    let P : List ℕ → Type 0 = λ v. length v ≤ value_limit in
+    let P : List ℕ → Type 0 = λ v. length v ≤ value_bytes_limit in
     let Q : List (List ℕ) → Type 0 = λ vs. AreShort vs in
     subst Q (sym pushed) (All-push P values value all (subst P (sym same) short))
 

@@ -5,10 +5,10 @@ use Rattle.std.specs.List.{Contains}
 use Rattle.std.specs.Str.{IsUtf8}
 use Rattle.std.proofs.lemmas.Grind.{common_steps}
 use Rattle.mt_text_spec.specs.Registries.{Registry, Kind, ValidRegistry, kind_names}
-use Rattle.mt_text_spec.specs.Texts.{Token, text_limit}
+use Rattle.mt_text_spec.specs.Texts.{Token, text_tokens_limit, value_bytes_limit}
 use Rattle.mt_file_spec.specs.Tags.{TagAttr, Tag, OpeningTag, EmptyTag, ClosingTag, IsTag, tag_value}
 use Rattle.mt_file_spec.specs.VerticalLines.{IsSkipped, Role, Passes, Opens, Stands, Closes, Gives, Plays, tag_name, columns, first_columns}
-use Rattle.mt_file_spec.specs.Vertical.{TextCause, NotUtf8, TooManyTokens, ValueTooLong, cause_rank, HasCause, token_in, kept, value_limit}
+use Rattle.mt_file_spec.specs.Vertical.{TextCause, NotUtf8, TooManyTokens, ValueTooLong, cause_rank, HasCause, token_in, kept}
 use Rattle.mt_vertical.specs.declared.text.tags.Form.{Form}
 use Rattle.mt_vertical.specs.declared.text.tags.Form.TheVariants as form
 use Rattle.mt_vertical.specs.Readers.{State, Did, IsSound, HasReadLine, Refuses, AreShort, HasLong, token_role}
@@ -22,12 +22,12 @@ use Rattle.mt_vertical.proofs.Utf8.{name_text}
 
 not_long : (values : List (List ℕ)) → AreShort values → HasLong values → ⊥
 not_long values short any =
-    let here : length (get_or values any.0 any.1) ≤ value_limit = short any.0 any.1 any.2 in
+    let here : length (get_or values any.0 any.1) ≤ value_bytes_limit = short any.0 any.1 any.2 in
     let is : get_or values any.0 any.1 ≡ any.1 = any.3 in
-    let low : length any.1 ≤ value_limit = subst (λ v. length v ≤ value_limit) is here in
-    let high : value_limit < length any.1 = any.4 in omega arith
+    let low : length any.1 ≤ value_bytes_limit = subst (λ v. length v ≤ value_bytes_limit) is here in
+    let high : value_bytes_limit < length any.1 = any.4 in omega arith
 
-no_cause : (registry : Registry) (place : ℕ) (line : List ℕ) (role : Role) → ValidRegistry registry → IsUtf8 line → Plays registry line role → ((token : Token) → role ≡ Gives token → place ≢ text_limit) →
+no_cause : (registry : Registry) (place : ℕ) (line : List ℕ) (role : Role) → ValidRegistry registry → IsUtf8 line → Plays registry line role → ((token : Token) → role ≡ Gives token → place ≢ text_tokens_limit) →
     AreShort (kept role) → (cause : TextCause) → ¬ HasCause registry place line cause
 no_cause registry place line role v u p few short NotUtf8 h = h u
 no_cause registry place line role v u p few short TooManyTokens h = few h.1.0 (plays_once registry line role (Gives h.1.0) v p h.1.1) h.0
@@ -180,13 +180,13 @@ closing_read registry state new f name region number kind v s e n k d line u h =
     }
 
 -- a tag whose values are too long, which is no token
-long_refused : (registry : Registry) (state : State) (line : List ℕ) (role : Role) → ValidRegistry registry → IsUtf8 line → Plays registry line role → ((token : Token) → role ≡ Gives token → length state.tokens ≢ text_limit) →
+long_refused : (registry : Registry) (state : State) (line : List ℕ) (role : Role) → ValidRegistry registry → IsUtf8 line → Plays registry line role → ((token : Token) → role ≡ Gives token → length state.tokens ≢ text_tokens_limit) →
     HasLong (kept role) → (other : TextCause) → cause_rank other < 2 → ¬ HasCause registry (length state.tokens) line other
 long_refused registry state line role v u p few long NotUtf8 low h = h u
 long_refused registry state line role v u p few long TooManyTokens low h = few h.1.0 (plays_once registry line role (Gives h.1.0) v p h.1.1) h.0
 long_refused registry state line role v u p few long ValueTooLong low h = absurd (omega arith)
 
-refuses_long : (registry : Registry) (state : State) (line : List ℕ) (role : Role) → ValidRegistry registry → IsUtf8 line → Plays registry line role → ((token : Token) → role ≡ Gives token → length state.tokens ≢ text_limit) →
+refuses_long : (registry : Registry) (state : State) (line : List ℕ) (role : Role) → ValidRegistry registry → IsUtf8 line → Plays registry line role → ((token : Token) → role ≡ Gives token → length state.tokens ≢ text_tokens_limit) →
     HasLong (kept role) → Refuses registry state line ValueTooLong
 refuses_long registry state line role v u p few long = record { has = (role, p, long); first = long_refused registry state line role v u p few long }
 
@@ -229,11 +229,11 @@ empty_long registry state f name region number kind v e n k long line u h =
 token_plays : (registry : Registry) (state : State) (line : List ℕ) → IsSound registry state → ¬ IsSkipped line → ((tag : Tag) → ¬ IsTag line tag) → Plays registry line (token_role state.columns line)
 token_plays registry state line s k t = record { stays = k; untagged = t; are = ap (λ n. first_columns n (columns line)) s.columns }
 
-few_more : (old new : List Token) (token : Token) → new ≡ old ++ token ∷ [] → length old ≤ text_limit → length old ≢ text_limit → length new ≤ text_limit
+few_more : (old new : List Token) (token : Token) → new ≡ old ++ token ∷ [] → length old ≤ text_tokens_limit → length old ≢ text_tokens_limit → length new ≤ text_tokens_limit
 few_more old new token e l n = let count : length (old ++ token ∷ []) ≡ length old + 1 = grind (arith, common_steps) in omega (arith, ap length e, count, l, n)
 
 pub token_read : (registry : Registry) (state new : State) (line : List ℕ) → ValidRegistry registry → IsSound registry state → IsUtf8 line → ¬ IsSkipped line → ((tag : Tag) → ¬ IsTag line tag) →
-    Did state (token_role state.columns line) new → AreShort (first_columns state.columns (columns line)) → length state.tokens ≢ text_limit → HasReadLine registry state line new
+    Did state (token_role state.columns line) new → AreShort (first_columns state.columns (columns line)) → length state.tokens ≢ text_tokens_limit → HasReadLine registry state line new
 token_read registry state new line v s u k t d short few =
     let p = token_plays registry state line s k t in
     record {
@@ -249,7 +249,7 @@ only_utf8 registry place line u NotUtf8 low h = h u
 only_utf8 registry place line u TooManyTokens low h = absurd (omega arith)
 only_utf8 registry place line u ValueTooLong low h = absurd (omega arith)
 
-pub token_many : (registry : Registry) (state : State) (line : List ℕ) → IsSound registry state → IsUtf8 line → ¬ IsSkipped line → ((tag : Tag) → ¬ IsTag line tag) → length state.tokens ≡ text_limit →
+pub token_many : (registry : Registry) (state : State) (line : List ℕ) → IsSound registry state → IsUtf8 line → ¬ IsSkipped line → ((tag : Tag) → ¬ IsTag line tag) → length state.tokens ≡ text_tokens_limit →
     Refuses registry state line TooManyTokens
 token_many registry state line s u k t full = record {
   has = (full, (record { values = first_columns state.columns (columns line) }, token_plays registry state line s k t));
@@ -257,7 +257,7 @@ token_many registry state line s u k t full = record {
 }
 
 pub token_long : (registry : Registry) (state : State) (line : List ℕ) → ValidRegistry registry → IsSound registry state → IsUtf8 line → ¬ IsSkipped line → ((tag : Tag) → ¬ IsTag line tag) →
-    HasLong (first_columns state.columns (columns line)) → length state.tokens ≢ text_limit → Refuses registry state line ValueTooLong
+    HasLong (first_columns state.columns (columns line)) → length state.tokens ≢ text_tokens_limit → Refuses registry state line ValueTooLong
 token_long registry state line v s u k t long few =
     refuses_long registry state line (token_role state.columns line) v u (token_plays registry state line s k t) (λ token e. few) long
 
@@ -269,6 +269,6 @@ not_text registry state line n = record { has = n; first = nothing_before regist
 
 pub token_ok : {T E : Type 0} → (result : Result T E) (registry : Registry) (state new : State) (line : List ℕ) → ValidRegistry registry → IsSound registry state → IsUtf8 line → ¬ IsSkipped line →
     ((tag : Tag) → ¬ IsTag line tag) → OnOk result (Did state (token_role state.columns line) new) → OnOk result (AreShort (first_columns state.columns (columns line))) →
-    OnOk result (length state.tokens ≢ text_limit) → OnOk result (HasReadLine registry state line new)
+    OnOk result (length state.tokens ≢ text_tokens_limit) → OnOk result (HasReadLine registry state line new)
 token_ok (Ok x) registry state new line v s u k t d short few = token_read registry state new line v s u k t d short few
 token_ok (Err e) registry state new line v s u k t d short few = tt

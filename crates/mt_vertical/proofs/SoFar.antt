@@ -2,7 +2,7 @@
 use Rattle.std.proofs.Common.{◌≡◌, ℕ, zero, suc, ◌+◌, ◌<◌, ◌≤◌, List, [], ◌∷◌, ◌++◌, length, get_or, replicate, refl, sym, ◌∙◌, ap, subst, arith, append_assoc, None}
 use Rattle.std.proofs.lemmas.Grind.{common_steps}
 use Rattle.mt_text_spec.specs.Registries.{Registry, base_count}
-use Rattle.mt_text_spec.specs.Texts.{Token, Text, text_limit}
+use Rattle.mt_text_spec.specs.Texts.{Token, Text, text_tokens_limit}
 use Rattle.mt_file_spec.specs.VerticalLines.{Role, Passes, Opens, Stands, Closes, Gives, Plays}
 use Rattle.mt_file_spec.specs.Vertical.{TextCause, HasCause, AreRead, token_in, tokens_in, past, text_lines, instances_in, Vertical, FirstTextFault}
 use Rattle.mt_vertical.specs.Readers.{State, Kept, IsSound, HasReadLine, Refuses, step, gathered}
@@ -87,7 +87,7 @@ nothing_read registry all rest state e c t k = record {
       subst P (sym (ap (λ ks. get_or ks kind nothing) k ∙ at_copies (length registry.kinds) kind)) (subst Q (sym (ap length t)) (none_yet kind));
   sound = record {
     columns = c;
-    few = let P : ℕ → Type 0 = λ n. n ≤ text_limit in subst P (sym (ap length t)) (omega arith);
+    few = let P : ℕ → Type 0 = λ n. n ≤ text_tokens_limit in subst P (sym (ap length t)) (omega arith);
     count = ap length k ∙ copies_len (length registry.kinds);
   };
 }

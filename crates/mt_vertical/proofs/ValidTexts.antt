@@ -8,7 +8,7 @@ use Rattle.std.proofs.lemmas.List.Elements.{All-nil, All-cons, All-head, All-tai
 use Rattle.std.proofs.lemmas.List.Kept.{AllPairs-cons}
 use Rattle.mt_text_spec.specs.Words.{IsName}
 use Rattle.mt_text_spec.specs.Registries.{Registry, Kind, base_count}
-use Rattle.mt_text_spec.specs.Texts.{Token, StructSpan, Text, ValidValue, ValidToken, ValidStructSpan, ComesBefore, ValidText, text_limit}
+use Rattle.mt_text_spec.specs.Texts.{Token, StructSpan, Text, ValidValue, ValidToken, ValidStructSpan, ComesBefore, ValidText, text_tokens_limit}
 use Rattle.mt_file_spec.specs.Tags.{TagAttr, Tag, OpeningTag, EmptyTag, tag_value}
 use Rattle.mt_file_spec.specs.VerticalLines.{Role, Passes, Opens, Stands, Closes, Gives, Plays, IsDeclared, columns, first_columns}
 use Rattle.mt_file_spec.specs.Vertical.{NotUtf8, TooManyTokens, ValueTooLong, AreRead, kept, token_in, tokens_in, past, is_tag_of, next_place, begun, instances_from, instances_in, text_lines, without_mark, Vertical}
@@ -90,17 +90,17 @@ tokens_valid registry place (line ∷ ls) (role ∷ roles) r f =
     All-append (ValidToken registry) (token_in role) (tokens_in roles) (one_valid registry place line role r.0 r.1 (All-head (All (λ b. b ≢ 10)) line ls f))
     (tokens_valid registry (past place role) ls roles r.2 (All-tail (All (λ b. b ≢ 10)) line ls f))
 
-few_token : (place : ℕ) → place ≤ text_limit → place ≢ text_limit → place + 1 ≤ text_limit
+few_token : (place : ℕ) → place ≤ text_tokens_limit → place ≢ text_tokens_limit → place + 1 ≤ text_tokens_limit
 few_token place l n = omega (arith, l, n)
 
-few_step : (registry : Registry) (place : ℕ) (line : List ℕ) (role : Role) → Plays registry line role → IsGood registry place line → place ≤ text_limit → past place role ≤ text_limit
+few_step : (registry : Registry) (place : ℕ) (line : List ℕ) (role : Role) → Plays registry line role → IsGood registry place line → place ≤ text_tokens_limit → past place role ≤ text_tokens_limit
 few_step registry place line Passes p g l = l
 few_step registry place line (Opens number values) p g l = l
 few_step registry place line (Stands number values) p g l = l
 few_step registry place line (Closes number) p g l = l
 few_step registry place line (Gives token) p g l = few_token place l (λ e. g TooManyTokens (e, (token, p)))
 
-few_tokens : (registry : Registry) (place : ℕ) (ls : List (List ℕ)) (roles : List Role) → AreRead registry place ls roles → place ≤ text_limit → place_after place roles ≤ text_limit
+few_tokens : (registry : Registry) (place : ℕ) (ls : List (List ℕ)) (roles : List Role) → AreRead registry place ls roles → place ≤ text_tokens_limit → place_after place roles ≤ text_tokens_limit
 unfolding place_after
 few_tokens registry place [] [] r l = l
 few_tokens registry place [] (role ∷ roles) r l = absurd r
@@ -284,7 +284,7 @@ valid_text registry name bytes text n v =
     let count : place_after 0 v.roles ≡ length text.tokens = place_is 0 v.roles ∙ zero_plus (length (tokens_in v.roles)) ∙ ap length (sym v.tokens) in
     record {
       named = subst IsName (sym v.named) n;
-      short = subst (λ k. k ≤ text_limit) count (few_tokens registry 0 (text_lines bytes) v.roles v.read (omega arith));
+      short = subst (λ k. k ≤ text_tokens_limit) count (few_tokens registry 0 (text_lines bytes) v.roles v.read (omega arith));
       tokens = All-same (ValidToken registry) text.tokens (tokens_in v.roles) v.tokens (tokens_valid registry 0 (text_lines bytes) v.roles v.read free);
       structs = All-same (ValidStructSpan registry (length text.tokens)) text.structs (instances_in (length registry.kinds) v.roles) v.structs
           (all_instances_valid registry (length registry.kinds) (length text.tokens) (text_lines bytes) v.roles v.read free (let h : place_after 0 v.roles ≡ length text.tokens = count in omega arith));

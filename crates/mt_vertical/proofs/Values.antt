@@ -11,10 +11,9 @@ use Rattle.std.proofs.lemmas.List.Splits.{slice_split_at, slice_split_none}
 use Rattle.std.proofs.lemmas.List.Sums.{prefix_len_stops}
 use Rattle.std.proofs.lemmas.Str.{IsUtf8-from_is_utf8, is_utf8-from_IsUtf8, IsUtf8-from_ascii}
 use Rattle.std.specs.Str.{is_utf8}
-use Rattle.mt_text_spec.specs.Texts.{ValidValue}
+use Rattle.mt_text_spec.specs.Texts.{ValidValue, value_bytes_limit}
 use Rattle.mt_file_spec.specs.Tags.{differs, is_quote, IsTagName, TagAttr, SpellsAttrs, tag_value, missing}
 use Rattle.mt_file_spec.specs.VerticalLines.{columns, first_columns}
-use Rattle.mt_file_spec.specs.Vertical.{value_limit}
 use Rattle.mt_vertical.specs.Readers.{AreShort, HasLong}
 use Rattle.mt_vertical.proofs.Steps.{front_passes}
 use Rattle.mt_vertical.proofs.Utf8.{utf8_before, utf8_behind, behind_name}
@@ -80,13 +79,13 @@ at_default [] k d e l = absurd (omega arith)
 at_default (v ∷ values) zero d e l = refl
 at_default (v ∷ values) (suc k) d e l = at_default values k d e (omega arith)
 
-short_cases : (values : List (List ℕ)) (k : ℕ) (d : List ℕ) → ¬ HasLong values → k < length values → (value_limit < length (get_or values k d)) ⊎ (length (get_or values k d) ≤ value_limit) →
-    length (get_or values k d) ≤ value_limit
+short_cases : (values : List (List ℕ)) (k : ℕ) (d : List ℕ) → ¬ HasLong values → k < length values → (value_bytes_limit < length (get_or values k d)) ⊎ (length (get_or values k d) ≤ value_bytes_limit) →
+    length (get_or values k d) ≤ value_bytes_limit
 short_cases values k d n l (inl high) = absurd (n (k, get_or values k d, l, at_default values k (get_or values k d) d l, high))
 short_cases values k d n l (inr low) = low
 
 pub short_from : (values : List (List ℕ)) → ¬ HasLong values → AreShort values
-short_from values n k d l = short_cases values k d n l (cases_lt value_limit (length (get_or values k d)))
+short_from values n k d l = short_cases values k d n l (cases_lt value_bytes_limit (length (get_or values k d)))
 
 text_cases : (line : List ℕ) (t : Bool) → is_utf8 line ≡ t → ¬ (¬ IsUtf8 line) → IsUtf8 line
 text_cases line true e n = IsUtf8-from_is_utf8 line e
@@ -103,7 +102,7 @@ pub record IsClean (value : List ℕ) : Type 0 where
   pub unfed : All (λ b. b ≢ 10) value
   pub untabbed : All (λ b. b ≢ 9) value
 
-pub valid_value : (value : List ℕ) → IsClean value → length value ≤ value_limit → ValidValue value
+pub valid_value : (value : List ℕ) → IsClean value → length value ≤ value_bytes_limit → ValidValue value
 valid_value value c short = record { text = c.text; short = short; plain = λ k d l. (c.unfed k d l, c.untabbed k d l) }
 
 distinct : (a b : ℕ) → (a == b) ≡ false → a ≢ b

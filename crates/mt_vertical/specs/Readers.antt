@@ -2,9 +2,9 @@
 use Rattle.std.specs.Prelude.{ℕ, ◌≡◌, ◌+◌, ◌<◌, ◌≤◌, ◌==◌, if◌then◌else◌, List, [], ◌∷◌, ◌++◌, length, slice_index_or, Option, None, Some}
 use Rattle.std.specs.List.{All, Any}
 use Rattle.mt_text_spec.specs.Registries.{Registry, base_count}
-use Rattle.mt_text_spec.specs.Texts.{Token, StructSpan, text_limit}
+use Rattle.mt_text_spec.specs.Texts.{Token, StructSpan, text_tokens_limit, value_bytes_limit}
 use Rattle.mt_file_spec.specs.VerticalLines.{Role, Opens, Stands, Closes, Gives, Plays, columns, first_columns}
-use Rattle.mt_file_spec.specs.Vertical.{TextCause, cause_rank, HasCause, token_in, value_limit}
+use Rattle.mt_file_spec.specs.Vertical.{TextCause, cause_rank, HasCause, token_in}
 
 -- an instance that has begun
 pub record Began : Type 0 where
@@ -57,7 +57,7 @@ pub record Did (old : State) (role : Role) (new : State) : Type 0 where
 -- what is always so under this registry
 pub record IsSound (registry : Registry) (state : State) : Type 0 where
   pub columns : state.columns ≡ base_count registry.attrs
-  pub few : length state.tokens ≤ text_limit
+  pub few : length state.tokens ≤ text_tokens_limit
   pub count : length state.kinds ≡ length registry.kinds
 
 -- a line was read, and has no cause
@@ -75,11 +75,11 @@ pub record Refuses (registry : Registry) (state : State) (line : List ℕ) (caus
 
 -- all of these are short enough
 abbrev pub AreShort : List (List ℕ) → Type 0
-AreShort values = All (λ value. length value ≤ value_limit) values
+AreShort values = All (λ value. length value ≤ value_bytes_limit) values
 
 -- one of these is too long
 abbrev pub HasLong : List (List ℕ) → Type 0
-HasLong values = Any (λ value. value_limit < length value) values
+HasLong values = Any (λ value. value_bytes_limit < length value) values
 
 -- the instances of the kinds from this one on, each open one ended at a place
 abbrev pub gathered : ℕ → ℕ → List Kept → List StructSpan

@@ -2,7 +2,7 @@
 
 ghost use Rattle.std.specs.Prelude.{◌≡◌, ◌≢◌, ℕ, ◌<◌, ◌≤◌, [], List as Items, length, replicate, slice_get, None, Some, IsUtf8, IfOk, OnOk};
 ghost use Rattle.mt_text_spec.specs.Registries.{ValidRegistry, base_count, kind_names};
-ghost use Rattle.mt_text_spec.specs.Texts.{text_limit};
+ghost use Rattle.mt_text_spec.specs.Texts.{text_tokens_limit};
 ghost use Rattle.mt_file_spec.specs.Vertical.{TextCause};
 ghost use Rattle.mt_file_spec.specs.VerticalLines.{Opens, Stands, Closes, columns, first_columns};
 ghost use Rattle.mt_vertical.specs.Readers as readers;
@@ -106,10 +106,10 @@ impl Reader {
     fn read_token(&mut self, line: &str) -> Result<(), Fault>
         ensures ok { OnOk result (Did self.old (token_role self.old.columns line.now) self.new) }
         ensures short { OnOk result (AreShort (first_columns self.old.columns (columns line.now))) }
-        ensures few { OnOk result (length self.old.tokens ≢ text_limit) }
+        ensures few { OnOk result (length self.old.tokens ≢ text_tokens_limit) }
         ensures not_utf8 { result ≡ Err Fault.NotUtf8 → ⊥ }
-        ensures too_many { result ≡ Err Fault.TooManyTokens → length self.old.tokens ≡ text_limit }
-        ensures too_long { result ≡ Err Fault.ValueTooLong → HasLong (first_columns self.old.columns (columns line.now)) × (length self.old.tokens ≢ text_limit) }
+        ensures too_many { result ≡ Err Fault.TooManyTokens → length self.old.tokens ≡ text_tokens_limit }
+        ensures too_long { result ≡ Err Fault.ValueTooLong → HasLong (first_columns self.old.columns (columns line.now)) × (length self.old.tokens ≢ text_tokens_limit) }
     {
         if self.tokens.len() == MOST_TOKENS {
             return Err(Fault::TooManyTokens);
@@ -174,7 +174,7 @@ impl Reader {
 
     /// Begins an instance of the kind.
     fn open(&mut self, kind: u16, values: List<Value>) -> Result<(), NoMemory>
-        requires few { length self.old.tokens ≤ text_limit }
+        requires few { length self.old.tokens ≤ text_tokens_limit }
         requires within { kind < length self.old.kinds }
         ensures { OnOk result (Did self.old (Opens kind values) self.new) }
     {
@@ -184,7 +184,7 @@ impl Reader {
 
     /// Adds an empty instance of the kind.
     fn stand(&mut self, kind: u16, values: List<Value>) -> Result<(), NoMemory>
-        requires few { length self.old.tokens ≤ text_limit }
+        requires few { length self.old.tokens ≤ text_tokens_limit }
         requires within { kind < length self.old.kinds }
         ensures { OnOk result (Did self.old (Stands kind values) self.new) }
     {
@@ -194,7 +194,7 @@ impl Reader {
 
     /// Ends the open instance of the kind.
     fn end(&mut self, kind: u16) -> Result<(), NoMemory>
-        requires few { length self.old.tokens ≤ text_limit }
+        requires few { length self.old.tokens ≤ text_tokens_limit }
         requires within { kind < length self.old.kinds }
         ensures { OnOk result (Did self.old (Closes kind) self.new) }
     {
@@ -204,7 +204,7 @@ impl Reader {
 
     /// The text of this name, in which the open instances end at its end.
     pub fn finish(self, alloc: Global, name: Value) -> Result<Text, NoMemory>
-        requires few { length self.tokens ≤ text_limit }
+        requires few { length self.tokens ≤ text_tokens_limit }
         requires kinds { length self.kinds ≤ 16 }
         ensures named { IfOk result (λ text. text.name ≡ name) }
         ensures tokens { IfOk result (λ text. text.tokens ≡ self.tokens) }

@@ -2,7 +2,7 @@
 
 ghost use Rattle.std.specs.Prelude.{◌≡◌, ℕ, ◌<◌, ◌≤◌, ◌+◌, ◌∷◌, ◌++◌, [], List as Items, length, map, option_map, IsUtf8, IfOk, OnOk};
 ghost use Rattle.mt_file_spec.specs.Tags.{TagAttr as SpelledAttr, tag_value};
-ghost use Rattle.mt_file_spec.specs.Vertical.{value_limit};
+ghost use Rattle.mt_text_spec.specs.Texts.{value_bytes_limit};
 ghost use Rattle.mt_file_spec.specs.VerticalLines.{columns, first_columns};
 ghost use Rattle.mt_vertical.specs.Readers.{AreShort, HasLong, columns_left};
 ghost use Rattle.mt_vertical.specs.TagReading.{ReadsAttrs};
@@ -43,8 +43,8 @@ impl From<NoMemory> for Fault {
 fn keep(alloc: Global, bytes: &[u8]) -> Result<Value, Fault>
     requires { IsUtf8 bytes.now }
     ensures ok { IfOk result (λ value. value ≡ bytes.now) }
-    ensures short { IfOk result (λ value. length bytes.now ≤ value_limit) }
-    ensures long { result ≡ Err Fault.ValueTooLong → value_limit < length bytes.now }
+    ensures short { IfOk result (λ value. length bytes.now ≤ value_bytes_limit) }
+    ensures long { result ≡ Err Fault.ValueTooLong → value_bytes_limit < length bytes.now }
     ensures other { result ≡ Err Fault.NotUtf8 → ⊥ }
     ensures no_other { result ≡ Err Fault.TooManyTokens → ⊥ }
 {
@@ -60,8 +60,8 @@ fn keep(alloc: Global, bytes: &[u8]) -> Result<Value, Fault>
 /// Adds a value to the row.
 fn push_short(row: &mut Strings, text: &str) -> Result<(), Fault>
     ensures ok { OnOk result (row.new ≡ row.old ++ text.now ∷ []) }
-    ensures short { OnOk result (length text.now ≤ value_limit) }
-    ensures long { result ≡ Err Fault.ValueTooLong → value_limit < length text.now }
+    ensures short { OnOk result (length text.now ≤ value_bytes_limit) }
+    ensures long { result ≡ Err Fault.ValueTooLong → value_bytes_limit < length text.now }
     ensures other { result ≡ Err Fault.NotUtf8 → ⊥ }
     ensures no_other { result ≡ Err Fault.TooManyTokens → ⊥ }
 {
