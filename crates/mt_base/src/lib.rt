@@ -4,6 +4,7 @@
 //! a `Registry`, a `Text`, a `Span` and a `Row` as the records of `mt_text_spec`, `Lines` as the list of lines to come, and `Steps` as a number. What bytes are an identifier is told here too (`words`).
 #![tactic(auto)]
 
+pub mod limits;
 mod lines;
 mod list;
 mod registry;

@@ -1,7 +1,8 @@
 //! A list over a `Vec`, seen as the list of its items.
 
-ghost use Rattle.std.specs.Prelude.{◌≡◌, ℕ, ◌<◌, [], ◌∷◌, ◌++◌, length, take, nat_eq, slice_index_or, IfOk, OnOk, OnErr};
+ghost use Rattle.std.specs.Prelude.{◌≡◌, ℕ, ◌<◌, ◌≤◌, [], ◌∷◌, ◌++◌, length, take, drop, nat_eq, slice_index_or, IfOk, OnOk, OnErr, IsSome, IfSome, IfNone, IsPermutation, IsSorted};
 ghost use Rattle.std.specs.List.{AllZip};
+ghost use Rattle.std.specs.List.Sorted.{IsSortedByKeyClosure};
 
 use super::NoMemory;
 use std::alloc::Global;
@@ -84,6 +85,44 @@ impl<T> List<T> {
     }
 }
 
+impl<T> List<T> {
+    /// Puts the items in order. Which of equal items comes first is left open.
+    pub fn sort_unstable(&mut self)
+    where
+        T: Ord,
+        ensures permutation { IsPermutation self.old self.new }
+        ensures sorted { IsSorted T.cmp self.new }
+    {
+        self.items.sort_unstable();
+    }
+
+    /// Puts the items in the order of their keys, each of which may be made many times. Which of items with equal keys comes first is left open.
+    pub fn sort_unstable_by_key<K: Ord, F: FnMut(&T) -> K>(&mut self, key: F)
+    where
+        K: Drop,
+        requires { F.IsAlwaysCallable key }
+        ensures permutation { IsPermutation self.old self.new }
+        ensures sorted { IsSortedByKeyClosure F.FnMut K.cmp key self.new }
+    {
+        self.items.sort_unstable_by_key(key);
+    }
+
+    /// Makes room for so many items more, and for no more than these.
+    pub fn reserve_exact(&mut self, additional: usize) -> Result<(), NoMemory>
+        ensures { self.new ≡ self.old }
+    {
+        self.items.reserve_exact(additional)?;
+        Ok(())
+    }
+
+    /// Gives back the room that no item takes, where there is memory for it.
+    pub fn shrink_to_fit(&mut self)
+        ensures { self.new ≡ self.old }
+    {
+        self.items.shrink_to_fit();
+    }
+}
+
 impl<T: Drop> List<T> {
     /// Adds an item at the end. Without memory nothing changes, and the item is dropped.
     pub fn push(&mut self, item: T) -> Result<(), NoMemory>
@@ -94,6 +133,32 @@ impl<T: Drop> List<T> {
             Ok(()) => Ok(()),
             Err(_) => Err(NoMemory),
         }
+    }
+
+    /// Puts one item, or none, in place of those from one place on and before another. It takes no memory.
+    pub fn replace_range(&mut self, from: usize, to: usize, item: Option<T>)
+        requires order { from ≤ to }
+        requires within { to ≤ length self.old }
+        requires room { IsSome item → from < to }
+        ensures some { IfSome item (λ one. self.new ≡ take from self.old ++ one ∷ drop to self.old) }
+        ensures none { IfNone item (self.new ≡ take from self.old ++ drop to self.old) }
+    {
+        match item {
+            Some(item) => {
+                self.items[from] = item;
+                self.remove_range(from + 1, to);
+            }
+            None => self.remove_range(from, to),
+        }
+    }
+
+    /// Takes away the items from one place on and before another.
+    fn remove_range(&mut self, from: usize, to: usize)
+        requires order { from ≤ to }
+        requires within { to ≤ length self.old }
+        ensures { self.new ≡ take from self.old ++ drop to self.old }
+    {
+        self.items.drain(from..to);
     }
 
     /// Keeps the first `n` items, or all where there are fewer.

@@ -1,26 +1,104 @@
-//! Spans and rows.
+//! Spans and rows, seen as the records of `mt_text_spec`.
 
-/// A run of tokens of one text: the text's number, and the places from which and before which the tokens stand.
-#[derive(Clone, Copy, Debug, PartialEq, Eq, PartialOrd, Ord, Drop)]
+ghost use Rattle.std.specs.Prelude.{◌≡◌, replicate};
+ghost use Rattle.mt_text_spec.specs.Texts as spec;
+
+use std::marker::Model;
+
+/// A run of tokens of one text: the text's number, and the places from which and before which the tokens stand. Spans are ordered by their text, then by their
+/// begin, then by their end.
+#[derive(Clone, Copy, Debug, PartialEq, Eq, PartialOrd, Ord, Hash, Drop)]
 pub struct Span {
-    /// The number of the text in the corpus, from 0.
-    pub text: u32,
-    /// The place of the first token in the text.
-    pub begin: u32,
-    /// The place behind the last token.
-    pub end: u32,
+    text: u32,
+    begin: u32,
+    end: u32,
 }
 
-/// A span with the places of the labels 1 to 9; `Row::UNSET` stands for a label that is not set.
-#[derive(Clone, Copy, Debug, PartialEq, Eq, PartialOrd, Ord, Drop)]
+impl Model for Span {
+    ghost Value = { spec.Span };
+
+    ghost view = { λ s. record { text = s.text; begin = s.begin; end = s.end } };
+
+    ghost inverse = { λ s. record { text = s.text; begin = s.begin; end = s.end } };
+}
+
+impl Span {
+    /// The span of the text with this number from one place to the other.
+    pub fn new(text: u32, begin: u32, end: u32) -> Self
+        ensures { result ≡ record { text = text; begin = begin; end = end } }
+    {
+        Span { text, begin, end }
+    }
+
+    /// The number of the text in the corpus, counted from 0.
+    pub fn text(&self) -> u32
+        ensures { result ≡ self.now.text }
+    {
+        self.text
+    }
+
+    /// The place of the first token in the text.
+    pub fn begin(&self) -> u32
+        ensures { result ≡ self.now.begin }
+    {
+        self.begin
+    }
+
+    /// The place behind the last token.
+    pub fn end(&self) -> u32
+        ensures { result ≡ self.now.end }
+    {
+        self.end
+    }
+}
+
+/// A span with the places of the labels 1 to 9. Rows are ordered by their span, then by the places of the labels, the first label first.
+#[derive(Clone, Copy, Debug, PartialEq, Eq, PartialOrd, Ord, Hash, Drop)]
 pub struct Row {
-    /// The span.
-    pub span: Span,
-    /// The place of each label in the text.
-    pub labels: [u32; 9],
+    span: Span,
+    labels: [u32; 9],
+}
+
+impl Model for Row {
+    ghost Value = { spec.Row };
+
+    ghost view = { λ r. record { span = r.span; labels = r.labels } };
+
+    ghost inverse = { λ r. record { span = r.span; labels = r.labels } };
 }
 
 impl Row {
     /// The place that no label has.
     pub const UNSET: u32 = u32::MAX;
+
+    /// The row of this span whose labels have these places; `Row::UNSET` stands for a label that is not set.
+    pub fn new(span: Span, labels: [u32; 9]) -> Self
+        ensures { result ≡ record { span = span; labels = labels } }
+    {
+        Row { span, labels }
+    }
+
+    /// The row of this span with no label set.
+    pub fn unlabelled(span: Span) -> Self
+        ensures { result ≡ record { span = span; labels = replicate 9 spec.unset } }
+    {
+        Row {
+            span,
+            labels: [Row::UNSET; 9],
+        }
+    }
+
+    /// The span.
+    pub fn span(&self) -> Span
+        ensures { result ≡ self.now.span }
+    {
+        self.span
+    }
+
+    /// The places of the labels in the text, of the first label first.
+    pub fn labels(&self) -> &[u32; 9]
+        ensures { result.now ≡ self.now.labels }
+    {
+        &self.labels
+    }
 }
