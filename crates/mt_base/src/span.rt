@@ -1,13 +1,17 @@
 //! Spans and rows, seen as the records of `mt_text_spec`.
 
-ghost use Rattle.std.specs.Prelude.{◌≡◌, replicate};
+ghost use Rattle.std.specs.Prelude.{◌≡◌, refl, replicate, Some};
+ghost use Rattle.std.specs.Cmp.{eq_by_cmp_equiv, partial_equiv_from_equiv, partial_order_from_total};
+ghost use Rattle.std.specs.Ordering.{eq_by_cmp};
+ghost use Rattle.mt_text_spec.specs.Orders.{span_cmp, span_cmp_total, row_cmp, row_cmp_total};
 ghost use Rattle.mt_text_spec.specs.Texts as spec;
 
+use std::cmp::Ordering;
 use std::marker::Model;
 
 /// A run of tokens of one text: the text's number, and the places from which and before which the tokens stand. Spans are ordered by their text, then by their
 /// begin, then by their end.
-#[derive(Clone, Copy, Debug, PartialEq, Eq, PartialOrd, Ord, Hash, Drop)]
+#[derive(Clone, Copy, Debug, Drop)]
 pub struct Span {
     text: u32,
     begin: u32,
@@ -52,8 +56,48 @@ impl Span {
     }
 }
 
+impl PartialEq for Span {
+    ghost eq = { eq_by_cmp span_cmp };
+
+    ghost laws = { partial_equiv_from_equiv (eq_by_cmp_equiv span_cmp_total) };
+
+    fn eq(&self, other: &Self) -> bool {
+        self.cmp(other).is_eq()
+    }
+}
+
+impl Eq for Span {
+    ghost laws = { eq_by_cmp_equiv span_cmp_total };
+}
+
+impl PartialOrd for Span {
+    ghost partial_cmp = { λ x y. Some (span_cmp x y) };
+
+    ghost laws = { partial_order_from_total span_cmp_total };
+
+    fn partial_cmp(&self, other: &Self) -> Option<Ordering> {
+        Some(self.cmp(other))
+    }
+}
+
+impl Ord for Span {
+    ghost cmp = { span_cmp };
+
+    ghost total = { span_cmp_total };
+
+    ghost matches_partial_cmp = { λ x y. refl };
+
+    ghost matches_eq = { λ x y. refl };
+
+    fn cmp(&self, other: &Self) -> Ordering {
+        self.text
+            .cmp(&other.text)
+            .then(self.begin.cmp(&other.begin).then(self.end.cmp(&other.end)))
+    }
+}
+
 /// A span with the places of the labels 1 to 9. Rows are ordered by their span, then by the places of the labels, the first label first.
-#[derive(Clone, Copy, Debug, PartialEq, Eq, PartialOrd, Ord, Hash, Drop)]
+#[derive(Clone, Copy, Debug, Drop)]
 pub struct Row {
     span: Span,
     labels: [u32; 9],
@@ -100,5 +144,45 @@ impl Row {
         ensures { result.now ≡ self.now.labels }
     {
         &self.labels
+    }
+}
+
+impl PartialEq for Row {
+    ghost eq = { eq_by_cmp row_cmp };
+
+    ghost laws = { partial_equiv_from_equiv (eq_by_cmp_equiv row_cmp_total) };
+
+    fn eq(&self, other: &Self) -> bool {
+        self.cmp(other).is_eq()
+    }
+}
+
+impl Eq for Row {
+    ghost laws = { eq_by_cmp_equiv row_cmp_total };
+}
+
+impl PartialOrd for Row {
+    ghost partial_cmp = { λ x y. Some (row_cmp x y) };
+
+    ghost laws = { partial_order_from_total row_cmp_total };
+
+    fn partial_cmp(&self, other: &Self) -> Option<Ordering> {
+        Some(self.cmp(other))
+    }
+}
+
+impl Ord for Row {
+    ghost cmp = { row_cmp };
+
+    ghost total = { row_cmp_total };
+
+    ghost matches_partial_cmp = { λ x y. refl };
+
+    ghost matches_eq = { λ x y. refl };
+
+    fn cmp(&self, other: &Self) -> Ordering {
+        self.span
+            .cmp(&other.span)
+            .then_with(|| self.labels.cmp(&other.labels))
     }
 }

@@ -1,4 +1,5 @@
 pub mod Lines
+pub mod Orders
 pub mod Queries
 pub mod Registries
 pub mod Texts
