@@ -1,7 +1,8 @@
-//! Values, lists, registries, texts, spans, lines and counters of steps: the small types that every crate of the engine uses.
+//! Values, lists, registries, texts, spans and rows, lines and counters of steps: the small types of which the other crates are made. The limits of texts stand
+//! here too (`limits`), and which bytes are an identifier (`words`).
 //!
-//! Contracts see a `Value` as its bytes, a `List` as the list of its items, `Strings` as the list of their bytes, `Tokens` as the number of their values and the list of tokens,
-//! a `Registry`, a `Text`, a `Span` and a `Row` as the records of `mt_text_spec`, `Lines` as the list of lines to come, and `Steps` as a number. What bytes are an identifier is told here too (`words`).
+//! Contracts see a `Value` as its bytes, a `List` as the list of its items, `Strings` as the list of their bytes, `Tokens` as the record of `specs/Rows.antt`, a
+//! `Registry`, a `Text`, a `StructSpan`, a `Span` and a `Row` as the records of `mt_text_spec`, `Lines` as the list of lines to come, and `Steps` as a number.
 #![tactic(auto)]
 
 pub mod limits;
@@ -11,6 +12,8 @@ mod registry;
 mod span;
 mod steps;
 mod strings;
+#[cfg(test)]
+mod tests;
 mod text;
 mod tokens;
 mod value;
@@ -26,7 +29,7 @@ pub use strings::Strings;
 pub use text::{StructSpan, Text};
 pub use tokens::Tokens;
 pub use value::Value;
-pub use words::{begins_identifier, identifier_len, is_identifier, is_in_identifier};
+pub use words::{begins_identifier, identifier_len, is_identifier};
 
 /// Want of memory: the one answer that any call which takes memory may give at any time.
 #[derive(Clone, Copy, Debug, PartialEq, Eq, Drop)]

@@ -91,6 +91,7 @@ impl<T> List<T> {
     where
         T: Ord,
         ensures permutation { IsPermutation self.old self.new }
+        ensures len { length self.new ≡ length self.old }
         ensures sorted { IsSorted T.cmp self.new }
     {
         self.items.sort_unstable();
@@ -102,6 +103,7 @@ impl<T> List<T> {
         K: Drop,
         requires { F.IsAlwaysCallable key }
         ensures permutation { IsPermutation self.old self.new }
+        ensures len { length self.new ≡ length self.old }
         ensures sorted { IsSortedByKeyClosure F.FnMut K.cmp key self.new }
     {
         self.items.sort_unstable_by_key(key);

@@ -90,9 +90,7 @@ impl Ord for Span {
     ghost matches_eq = { λ x y. refl };
 
     fn cmp(&self, other: &Self) -> Ordering {
-        self.text
-            .cmp(&other.text)
-            .then(self.begin.cmp(&other.begin).then(self.end.cmp(&other.end)))
+        self.text.cmp(&other.text).then(self.begin.cmp(&other.begin).then(self.end.cmp(&other.end)))
     }
 }
 

@@ -171,5 +171,9 @@ fn start_of(ends: &[u32], place: usize) -> usize
     requires { place < length ends.now }
     ensures { result ≡ slice_index (0 ∷ ends.now) place }
 {
-    if place == 0 { 0 } else { ends[place - 1] as usize }
+    if place == 0 {
+        0
+    } else {
+        ends[place - 1] as usize
+    }
 }

@@ -77,6 +77,13 @@ impl Tokens {
         Ok(())
     }
 
+    /// Gives back the room that no token takes, where there is memory for it.
+    pub fn shrink_to_fit(&mut self)
+        ensures { self.new ≡ self.old }
+    {
+        self.values.shrink_to_fit();
+    }
+
     /// The value of the token at a place, counted from 0, at a base attribute, by its place among the base attributes. A value that a token has not is empty.
     pub fn value(&self, place: usize, column: usize) -> &str
         requires { place < length self.now.tokens }

@@ -12,7 +12,7 @@ pub fn begins_identifier(b: u8) -> bool
 }
 
 /// Whether this byte may stand in an identifier: an ASCII letter, a digit or `_`.
-pub fn is_in_identifier(b: u8) -> bool
+fn is_in_identifier(b: u8) -> bool
     ensures { result ≡ is_identifier_byte b }
 {
     b.is_ascii_alphanumeric() || b == b'_'

@@ -5,7 +5,7 @@ use Rattle.std.specs.declared.cmp.Ordering.TheVariants.{Less, Equal, Greater}
 use Rattle.std.specs.Ordering.{nat_cmp, on, then_cmp, ordering_then, is_eq}
 use Rattle.std.specs.Cmp.{IsTotalOrder, then_total, on_total, nat_cmp_total, unsigned_tied}
 use Rattle.std.specs.Cmp.Lexicographic.{slice_cmp, nat_list_cmp_total, texts_ties, bytes_decides}
-use Rattle.std.proofs.Common.{true, false, ap, sym, ◌∙◌, eqb-true}
+use Rattle.std.proofs.Common.{ap, sym, ◌∙◌, eqb-true}
 use Rattle.mt_text_spec.specs.Texts.{Span, Row}
 
 -- spans by the text's number, then by their begin, then by their end
