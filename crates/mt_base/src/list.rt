@@ -189,7 +189,7 @@ impl<T: Clone> List<T> {
     pub fn copy(&self, alloc: Global) -> Result<Self, NoMemory>
         ensures { IfOk result (λ copy. AllZip T.is_clone self.now copy) }
     {
-        let mut items = Vec::new(alloc);
+        let mut items = Vec::with_capacity(alloc, self.items.len())?;
         for item in &self.items {
             items.push(item.clone()?)?;
         }
