@@ -1,8 +1,8 @@
 //! Where bytes come from and go to and where files are kept, by traits, and each in memory, where chosen calls fail.
 //!
 //! An object may tell what it has: the bytes that a source has left or a sink holds, the files of a shelf. Clauses on
-//! bytes and files hold where it does. The count of faults of a source or a sink never falls, and a call that fails
-//! raises it, or finds and leaves it at its last value. A shelf keeps the names at which calls failed.
+//! bytes and files hold where it does. A call of a source or a sink that fails raises its count of faults, or finds and
+//! leaves it at its last value, and any other call leaves it. A shelf keeps the names at which calls failed.
 //! Contracts see a `MemorySource` as a `Reading`, a `MemorySink` as a `Writing` and a `MemoryShelf` as a `Shelving`.
 #![tactic(auto)]
 

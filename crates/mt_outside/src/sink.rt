@@ -34,6 +34,8 @@ pub trait Sink {
         ensures told { IfOk result (λ n. Told (held self.old) (λ all.
             held self.new ≡ Some (all ++ take n piece.now))) }
         ensures kept { OnErr result (held self.new ≡ held self.old) }
+        ensures ok { OnOk result (faults self.new ≡ faults self.old) }
+        ensures no_memory { IsErrOf result SinkError.NoMemory → faults self.new ≡ faults self.old }
         ensures rises { faults self.old ≤ faults self.new }
         ensures failed { IsErrOf result SinkError.Failed → Rose (faults self.old) (faults self.new) };
 }

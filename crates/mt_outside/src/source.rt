@@ -27,6 +27,7 @@ pub trait Source {
         ensures told { IfOk result (λ n. Told (left self.old) (λ all.
             Takes all n buf.new (left self.new))) }
         ensures kept { OnErr result (left self.new ≡ left self.old) }
+        ensures ok { OnOk result (faults self.new ≡ faults self.old) }
         ensures rises { faults self.old ≤ faults self.new }
         ensures failed { OnErr result (Rose (faults self.old) (faults self.new)) };
 }
