@@ -185,7 +185,7 @@ impl<T: Copy> List<T> {
 }
 
 impl<T: Clone> List<T> {
-    /// A copy of each item, in order.
+    /// A copy of each item, in order, in a list of just that size.
     pub fn copy(&self, alloc: Global) -> Result<Self, NoMemory>
         ensures { IfOk result (λ copy. AllZip T.is_clone self.now copy) }
     {

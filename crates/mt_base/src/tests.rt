@@ -1,6 +1,6 @@
 //! The calls that may want memory, each once with memory enough, and the order of rows.
 
-use super::{List, Row, Span, Strings, Tokens};
+use super::{List, Row, Span, Strings, StructSpan, Tokens, Value};
 use std::test::Fail;
 
 #[test]
@@ -18,6 +18,17 @@ fn texts_lie_in_one_block(rt: HostRuntime) -> Result<(), Fail> {
     assert_eq!(rt; texts.get(1), "élan");
     assert_eq!(rt; tokens.len(), 2);
     assert_eq!(rt; tokens.value(1, 1), "élan");
+    Ok(())
+}
+
+#[test]
+fn instances_are_copied(rt: HostRuntime) -> Result<(), Fail> {
+    let mut values = List::new(rt.alloc());
+    values.push(Value::new(rt.alloc(), "1")?)?;
+    let instance = StructSpan::new(0, 2, 5, values);
+    let copy = instance.copy(rt.alloc())?;
+    assert_eq!(rt; copy.end(), 5);
+    assert_eq!(rt; copy.values().len(), 1);
     Ok(())
 }
 

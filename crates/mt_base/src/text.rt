@@ -1,9 +1,10 @@
 //! Texts and their instances of structures, seen as the records of `mt_text_spec`.
 
-ghost use Rattle.std.specs.Prelude.{◌≡◌, ◌<◌, length, nat_eq};
+ghost use Rattle.std.specs.Prelude.{◌≡◌, ◌<◌, length, nat_eq, IfOk};
 ghost use Rattle.mt_text_spec.specs.Texts as spec;
 
-use super::{List, Tokens, Value};
+use super::{List, NoMemory, Tokens, Value};
+use std::alloc::Global;
 use std::marker::Model;
 
 /// An instance of a structure in a text: the number of its kind, where it begins and where it ends, as numbers of tokens before either, and one value for
@@ -61,6 +62,14 @@ impl StructSpan {
         ensures { result.now ≡ self.now.values }
     {
         &self.values
+    }
+
+    /// An equal instance, whose values take just the room that they need.
+    pub fn copy(&self, alloc: Global) -> Result<Self, NoMemory>
+        ensures { IfOk result (λ copy. copy ≡ self.now) }
+    {
+        let values = self.values.copy(alloc)?;
+        Ok(StructSpan::new(self.kind, self.begin, self.end, values))
     }
 }
 
