@@ -243,6 +243,14 @@ pub data RegistryCause : Type 0 where
   UnknownMapper : RegistryCause
   UnknownBase : RegistryCause
 
+-- the word for a cause
+abbrev pub registry_cause : RegistryCause → List ℕ
+registry_cause Syntax = codes "Syntax"
+registry_cause Twice = codes "Twice"
+registry_cause TooMany = codes "TooMany"
+registry_cause UnknownMapper = codes "UnknownMapper"
+registry_cause UnknownBase = codes "UnknownBase"
+
 -- the order in which causes of one line are answered
 abbrev pub rank : RegistryCause → ℕ
 rank Syntax = 0

@@ -1,5 +1,5 @@
 -- How a text is read from its vertical, the file that has one token a line and tags of structures on lines of their own.
-use Rattle.std.specs.Prelude.{ℕ, zero, suc, ◌≡◌, ◌+◌, ◌<◌, ◌==◌, Bool, false, if◌then◌else◌, List, [], ◌∷◌, ◌++◌, length, take, drop, IsUtf8}
+use Rattle.std.specs.Prelude.{ℕ, zero, suc, ◌≡◌, ◌+◌, ◌<◌, ◌==◌, Bool, false, if◌then◌else◌, List, [], ◌∷◌, ◌++◌, length, take, drop, codes, IsUtf8}
 use Rattle.std.specs.List.{Any, flat_map}
 use Rattle.std.specs.Str.{bytes_eq}
 use Rattle.std.specs.Str.Lines.{lines}
@@ -70,6 +70,12 @@ pub data TextCause : Type 0 where
   NotUtf8 : TextCause
   TooManyTokens : TextCause
   ValueTooLong : TextCause
+
+-- the word for a cause
+abbrev pub text_cause : TextCause → List ℕ
+text_cause NotUtf8 = codes "NotUtf8"
+text_cause TooManyTokens = codes "TooManyTokens"
+text_cause ValueTooLong = codes "ValueTooLong"
 
 -- the values that a line gives its text
 abbrev pub kept : Role → List (List ℕ)

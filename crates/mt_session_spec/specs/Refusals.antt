@@ -2,8 +2,8 @@
 use Rattle.std.specs.Prelude.{ℕ, List, ◌∷◌, ◌++◌, codes}
 use Rattle.std.specs.Fmt.{decimal}
 use Rattle.mt_text_spec.specs.Lines.{closed}
-use Rattle.mt_file_spec.specs.RegistryFile.{RegistryCause, Syntax, Twice, TooMany, UnknownMapper, UnknownBase}
-use Rattle.mt_file_spec.specs.Vertical.{TextCause, NotUtf8, TooManyTokens, ValueTooLong}
+use Rattle.mt_file_spec.specs.RegistryFile.{RegistryCause, registry_cause}
+use Rattle.mt_file_spec.specs.Vertical.{TextCause, text_cause}
 
 -- Why a command is refused.
 pub data Refusal : Type 0 where
@@ -37,18 +37,6 @@ rank (UnknownName name) = 8
 rank CorpusFull = 9
 
 -- ## Lines
-
-abbrev pub registry_cause : RegistryCause → List ℕ
-registry_cause Syntax = codes "Syntax"
-registry_cause Twice = codes "Twice"
-registry_cause TooMany = codes "TooMany"
-registry_cause UnknownMapper = codes "UnknownMapper"
-registry_cause UnknownBase = codes "UnknownBase"
-
-abbrev pub text_cause : TextCause → List ℕ
-text_cause NotUtf8 = codes "NotUtf8"
-text_cause TooManyTokens = codes "TooManyTokens"
-text_cause ValueTooLong = codes "ValueTooLong"
 
 -- the reply to a refused command
 abbrev pub refusal_line : Refusal → List ℕ

@@ -5,15 +5,10 @@ ghost use Rattle.mt_session_spec.specs.World.{alone, corpus_of, IsFull};
 ghost use Rattle.mt_shell.specs.Corpora.{HasName};
 
 use indexmap::IndexSet;
+use mt_base::limits::{CORPUS_TEXTS_LIMIT, CORPUS_TOKENS_LIMIT};
 use mt_base::{List, NoMemory, Text, Value};
 use std::alloc::Global;
 use std::marker::Model;
-
-/// The most texts.
-const CORPUS_TEXTS_LIMIT: usize = 65_536;
-
-/// The most tokens of all texts.
-const CORPUS_TOKENS_LIMIT: usize = 4_194_304;
 
 /// The texts that are held, in order, each a group of its own, seen as the list of the groups. It knows the names by a table, and keeps the number of tokens.
 #[derive(Drop)]

@@ -1,12 +1,10 @@
 //! The session, and the run of a whole script: what the program does.
 #![tactic(auto)]
 
-mod cause;
 mod corpus;
 mod fetch;
 mod laws;
 mod literal;
-mod reading;
 mod refusal;
 mod session;
 mod talk;

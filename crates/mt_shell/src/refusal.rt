@@ -6,8 +6,9 @@ ghost use Rattle.mt_text_spec.specs.Lines.{closed};
 ghost use Rattle.mt_session_spec.specs.Refusals.{refusal_line, failure_line};
 ghost use Rattle.mt_shell.specs.Refusals.{refusal_of};
 
-use super::cause::{RegistryCause, TextCause};
 use mt_base::{List, NoMemory};
+use mt_registry::BadLine as BadRegistryLine;
+use mt_vertical::BadLine as BadTextLine;
 use std::alloc::Global;
 
 /// The reply to a line that is no command.
@@ -32,12 +33,12 @@ pub enum Refusal<'a> {
     NoSuchFile(&'a str),
     /// The file of this name is too long.
     FileTooLong(&'a str),
-    /// The line of this number, from 1, is the first that the registry is refused for.
-    BadRegistry(usize, RegistryCause),
+    /// This line is the first that the registry is refused for.
+    BadRegistry(BadRegistryLine),
     /// The registry declares no base attribute.
     NoAttribute,
-    /// The line of this number, from 1, is the first that the text is refused for.
-    BadVertical(usize, TextCause),
+    /// This line is the first that the text is refused for.
+    BadVertical(BadTextLine),
     /// No attribute of this name is declared.
     UnknownName(&'a str),
     /// There is no room for the text.
@@ -61,21 +62,21 @@ impl Refusal<'_> {
             Refusal::NameTaken(name) => Ok(format!(in alloc; "! 13 NameTaken {name}\n")?),
             Refusal::NoSuchFile(file) => Ok(format!(in alloc; "! 14 NoSuchFile {file}\n")?),
             Refusal::FileTooLong(file) => Ok(format!(in alloc; "! 15 FileTooLong {file}\n")?),
-            Refusal::BadRegistry(line, cause) => bad_line(
+            Refusal::BadRegistry(bad) => bad_line(
                 alloc,
                 "! 16 BadRegistry",
-                *line,
-                cause.word(),
+                bad.line,
+                bad.cause.word(),
             ),
             Refusal::NoAttribute => Ok(String::from_str(
                 alloc,
                 "! 16 BadRegistry 0 NoAttribute\n",
             )?),
-            Refusal::BadVertical(line, cause) => bad_line(
+            Refusal::BadVertical(bad) => bad_line(
                 alloc,
                 "! 17 BadVertical",
-                *line,
-                cause.word(),
+                bad.line,
+                bad.cause.word(),
             ),
             Refusal::UnknownName(name) => Ok(format!(in alloc; "! 19 UnknownName {name}\n")?),
             Refusal::CorpusFull => Ok(String::from_str(alloc, "! 23 CorpusFull\n")?),

@@ -1,22 +1,22 @@
 -- What a line that was read does, and that it has no cause.
-use Rattle.std.proofs.Common.{◌≡◌, ◌≢◌, ℕ, zero, suc, ◌+◌, ◌<◌, ◌≤◌, inl, inr, List, [], ◌∷◌, ◌++◌, length, map, get_or, refl, sym, ◌∙◌, ap, subst, arith, Some, Result, Ok, Err}
-use Rattle.std.specs.Prelude.{slice_get, OnOk}
+use Rattle.std.proofs.Common.{◌≡◌, ◌≢◌, ℕ, zero, suc, ◌+◌, ◌<◌, ◌≤◌, inl, inr, List, [], ◌∷◌, ◌++◌, length, map, get_or, refl, sym, ◌∙◌, ap, subst, arith, Some}
+use Rattle.std.specs.Prelude.{slice_get}
 use Rattle.std.specs.List.{Contains}
 use Rattle.std.specs.Str.{IsUtf8}
 use Rattle.std.proofs.lemmas.Grind.{common_steps}
 use Rattle.mt_text_spec.specs.Registries.{Registry, Kind, ValidRegistry, kind_names}
 use Rattle.mt_text_spec.specs.Texts.{Token, text_tokens_limit, value_bytes_limit}
-use Rattle.mt_file_spec.specs.Tags.{TagAttr, Tag, OpeningTag, EmptyTag, ClosingTag, IsTag, tag_value}
+use Rattle.mt_file_spec.specs.Tags.{TagAttr, OpeningTag, EmptyTag, ClosingTag, IsTag, tag_value}
 use Rattle.mt_file_spec.specs.VerticalLines.{IsSkipped, Role, Passes, Opens, Stands, Closes, Gives, Plays, tag_name, columns, first_columns}
 use Rattle.mt_file_spec.specs.Vertical.{TextCause, NotUtf8, TooManyTokens, ValueTooLong, cause_rank, HasCause, token_in, kept}
-use Rattle.mt_vertical.specs.declared.text.tags.Form.{Form}
-use Rattle.mt_vertical.specs.declared.text.tags.Form.TheVariants as form
+use Rattle.mt_vertical.specs.declared.tags.Form.{Form}
+use Rattle.mt_vertical.specs.declared.tags.Form.TheVariants as form
+use Rattle.mt_vertical.specs.Lines.{IsToken}
 use Rattle.mt_vertical.specs.Readers.{State, Did, IsSound, HasReadLine, Refuses, AreShort, HasLong, token_role}
 use Rattle.mt_vertical.specs.TagReading.{ReadsAttrs}
 use Rattle.mt_vertical.specs.TagForms.{IsFound, tag_of}
 use Rattle.mt_vertical.proofs.Steps.{same}
 use Rattle.mt_vertical.proofs.OneRole.{plays_once}
-use Rattle.mt_vertical.proofs.Utf8.{name_text}
 
 -- ## Causes
 
@@ -81,15 +81,6 @@ foreign_read registry state f name region v s n line u h = passes registry state
     foreign = let P : List ℕ → Type 0 = λ m. ¬ Contains (kind_names registry.kinds) m in subst P (sym (name_of_tag f name h.attrs)) n;
   },
 ))
-
-named_text : (f : Form) (name : List ℕ) (attrs : List TagAttr) (line : List ℕ) → IsTag line (tag_of f name attrs) → IsUtf8 name
-named_text form.Opening name attrs line t = name_text name t.spelled.named
-named_text form.Empty name attrs line t = name_text name t.spelled.named
-named_text form.Closing name attrs line t = name_text name t.spelled.named
-
--- the name of a tag is UTF-8
-pub tag_text : (line : List ℕ) (f : Form) (name region : List ℕ) → IsFound line f name region → IsUtf8 name
-tag_text line f name region h = named_text f name h.attrs line h.spelled
 
 -- ## Tags of declared kinds
 
@@ -226,49 +217,54 @@ empty_long registry state f name region number kind v e n k long line u h =
 
 -- ## Tokens
 
-token_plays : (registry : Registry) (state : State) (line : List ℕ) → IsSound registry state → ¬ IsSkipped line → ((tag : Tag) → ¬ IsTag line tag) → Plays registry line (token_role state.columns line)
-token_plays registry state line s k t = record { stays = k; untagged = t; are = ap (λ n. first_columns n (columns line)) s.columns }
+token_plays : (registry : Registry) (state : State) (line : List ℕ) → IsSound registry state → IsToken line → Plays registry line (token_role state.columns line)
+token_plays registry state line s t = record { stays = t.stays; untagged = t.untagged; are = ap (λ n. first_columns n (columns line)) s.columns }
 
 few_more : (old new : List Token) (token : Token) → new ≡ old ++ token ∷ [] → length old ≤ text_tokens_limit → length old ≢ text_tokens_limit → length new ≤ text_tokens_limit
 few_more old new token e l n = let count : length (old ++ token ∷ []) ≡ length old + 1 = grind (arith, common_steps) in omega (arith, ap length e, count, l, n)
 
-pub token_read : (registry : Registry) (state new : State) (line : List ℕ) → ValidRegistry registry → IsSound registry state → IsUtf8 line → ¬ IsSkipped line → ((tag : Tag) → ¬ IsTag line tag) →
+pub token_read : (registry : Registry) (state new : State) (line : List ℕ) → ValidRegistry registry → IsSound registry state → IsToken line →
     Did state (token_role state.columns line) new → AreShort (first_columns state.columns (columns line)) → length state.tokens ≢ text_tokens_limit → HasReadLine registry state line new
-token_read registry state new line v s u k t d short few =
-    let p = token_plays registry state line s k t in
+token_read registry state new line v s t d short few =
+    let p = token_plays registry state line s t in
     record {
       role = token_role state.columns line;
       plays = p;
-      good = no_cause registry (length state.tokens) line (token_role state.columns line) v u p (λ token e. few) short;
+      good = no_cause registry (length state.tokens) line (token_role state.columns line) v t.text p (λ token e. few) short;
       did = d;
       sound = record { columns = d.columns ∙ s.columns; few = few_more state.tokens new.tokens (record { values = first_columns state.columns (columns line) }) d.tokens s.few few; count = d.count ∙ s.count };
     }
+
+pub token_did : (old inside new : State) (row : List (List ℕ)) (line : List ℕ) → inside ≡ old → new.columns ≡ inside.columns → new.tokens ≡ inside.tokens ++ record { values = row } ∷ [] → new.kinds ≡ inside.kinds →
+    row ≡ first_columns inside.columns (columns line) → Did old (token_role old.columns line) new
+token_did old inside new row line e c t k r =
+    let P : State → Type 0 = λ o. Did o (token_role o.columns line) new in
+    subst P e (record {
+      columns = c;
+      tokens = t ∙ ap (λ r. inside.tokens ++ record { values = r } ∷ []) r;
+      count = ap length k;
+      each = λ kind d l. ap (λ ks. get_or ks kind d) k;
+    })
 
 only_utf8 : (registry : Registry) (place : ℕ) (line : List ℕ) → IsUtf8 line → (other : TextCause) → cause_rank other < 1 → ¬ HasCause registry place line other
 only_utf8 registry place line u NotUtf8 low h = h u
 only_utf8 registry place line u TooManyTokens low h = absurd (omega arith)
 only_utf8 registry place line u ValueTooLong low h = absurd (omega arith)
 
-pub token_many : (registry : Registry) (state : State) (line : List ℕ) → IsSound registry state → IsUtf8 line → ¬ IsSkipped line → ((tag : Tag) → ¬ IsTag line tag) → length state.tokens ≡ text_tokens_limit →
+pub token_many : (registry : Registry) (state : State) (line : List ℕ) → IsSound registry state → IsToken line → length state.tokens ≡ text_tokens_limit →
     Refuses registry state line TooManyTokens
-token_many registry state line s u k t full = record {
-  has = (full, (record { values = first_columns state.columns (columns line) }, token_plays registry state line s k t));
-  first = only_utf8 registry (length state.tokens) line u;
+token_many registry state line s t full = record {
+  has = (full, (record { values = first_columns state.columns (columns line) }, token_plays registry state line s t));
+  first = only_utf8 registry (length state.tokens) line t.text;
 }
 
-pub token_long : (registry : Registry) (state : State) (line : List ℕ) → ValidRegistry registry → IsSound registry state → IsUtf8 line → ¬ IsSkipped line → ((tag : Tag) → ¬ IsTag line tag) →
+pub token_long : (registry : Registry) (state : State) (line : List ℕ) → ValidRegistry registry → IsSound registry state → IsToken line →
     HasLong (first_columns state.columns (columns line)) → length state.tokens ≢ text_tokens_limit → Refuses registry state line ValueTooLong
-token_long registry state line v s u k t long few =
-    refuses_long registry state line (token_role state.columns line) v u (token_plays registry state line s k t) (λ token e. few) long
+token_long registry state line v s t long few =
+    refuses_long registry state line (token_role state.columns line) v t.text (token_plays registry state line s t) (λ token e. few) long
 
 nothing_before : (registry : Registry) (place : ℕ) (line : List ℕ) (other : TextCause) → cause_rank other < 0 → ¬ HasCause registry place line other
 nothing_before registry place line other low h = absurd (omega arith)
 
 pub not_text : (registry : Registry) (state : State) (line : List ℕ) → ¬ IsUtf8 line → Refuses registry state line NotUtf8
 not_text registry state line n = record { has = n; first = nothing_before registry (length state.tokens) line }
-
-pub token_ok : {T E : Type 0} → (result : Result T E) (registry : Registry) (state new : State) (line : List ℕ) → ValidRegistry registry → IsSound registry state → IsUtf8 line → ¬ IsSkipped line →
-    ((tag : Tag) → ¬ IsTag line tag) → OnOk result (Did state (token_role state.columns line) new) → OnOk result (AreShort (first_columns state.columns (columns line))) →
-    OnOk result (length state.tokens ≢ text_tokens_limit) → OnOk result (HasReadLine registry state line new)
-token_ok (Ok x) registry state new line v s u k t d short few = token_read registry state new line v s u k t d short few
-token_ok (Err e) registry state new line v s u k t d short few = tt

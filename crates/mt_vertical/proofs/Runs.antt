@@ -1,8 +1,7 @@
 -- The bytes in front that pass a test, and what stands behind them.
-use Rattle.std.proofs.Common.{◌≡◌, ℕ, ◌+◌, ◌-◌, Bool, true, false, ◌==◌, List, length, take, drop, get_or, refl, sym, ◌∙◌, ap, arith, nat_lt, None, Some}
+use Rattle.std.proofs.Common.{◌≡◌, ℕ, ◌+◌, Bool, true, false, ◌==◌, List, length, take, drop, get_or, refl, sym, ◌∙◌, ap, ap₂, arith, nat_lt, None, Some}
 use Rattle.std.specs.List.{prefix_len}
 use Rattle.std.proofs.lemmas.Bool.{false_from_ne_true}
-use Rattle.std.proofs.lemmas.List.{take_rest}
 use Rattle.std.proofs.lemmas.List.Folds.{length-prefix_len}
 use Rattle.std.proofs.lemmas.List.Sums.{prefix_len_is}
 use Rattle.memchr.specs.Find.{Nowhere, NoneBefore, Passes, is_byte}
@@ -39,10 +38,11 @@ none_quote : (quote : ℕ) (bytes : List ℕ) (n : ℕ) → prefix_len (differs 
 unfolding quote_at
 none_quote quote bytes n e l = rw (e, l) refl
 
-pub quote_found : (quote : ℕ) (bytes : List ℕ) (at : ℕ) → NoneBefore (Passes (is_byte quote) bytes) 0 (length bytes) at → Passes (is_byte quote) bytes at →
-    Some (take at bytes, take (length bytes - (at + 1)) (drop (at + 1) bytes)) ≡ quote_at quote bytes
-quote_found quote bytes at none here =
-    ap (λ r. Some (take at bytes, r)) (take_rest bytes (at + 1)) ∙ sym (some_quote quote bytes at (first_quote quote bytes at none here) (grind (arith, none.high)))
+pub quote_found : (quote : ℕ) (bytes seen front back : List ℕ) (at : ℕ) → seen ≡ bytes → NoneBefore (Passes (is_byte quote) seen) 0 (length seen) at → Passes (is_byte quote) seen at →
+    front ≡ take at bytes → back ≡ drop (at + 1) bytes → Some (front, back) ≡ quote_at quote bytes
+quote_found quote bytes seen front back at s none here f b =
+    ap₂ (λ x y. Some (x, y)) f b ∙ ap (λ xs. Some (take at xs, drop (at + 1) xs)) (sym s)
+    ∙ sym (some_quote quote seen at (first_quote quote seen at none here) (grind (arith, none.high))) ∙ ap (quote_at quote) s
 
-pub quote_not_found : (quote : ℕ) (bytes : List ℕ) → Nowhere (Passes (is_byte quote) bytes) 0 (length bytes) → quote_at quote bytes ≡ None
-quote_not_found quote bytes none = none_quote quote bytes (length bytes) (no_quote quote bytes none) (grind arith)
+pub quote_not_found : (quote : ℕ) (bytes seen : List ℕ) → seen ≡ bytes → Nowhere (Passes (is_byte quote) seen) 0 (length seen) → None ≡ quote_at quote bytes
+quote_not_found quote bytes seen s none = sym (none_quote quote seen (length seen) (no_quote quote seen none) (grind arith)) ∙ ap (quote_at quote) s

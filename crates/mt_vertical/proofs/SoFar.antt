@@ -1,12 +1,14 @@
 -- What reading a line adds to what was read.
-use Rattle.std.proofs.Common.{◌≡◌, ℕ, zero, suc, ◌+◌, ◌<◌, ◌≤◌, List, [], ◌∷◌, ◌++◌, length, get_or, replicate, refl, sym, ◌∙◌, ap, subst, arith, append_assoc, None}
+use Rattle.std.proofs.Common.{◌≡◌, ℕ, zero, suc, ◌+◌, ◌<◌, ◌≤◌, List, [], ◌∷◌, ◌++◌, length, get_or, replicate, refl, sym, ◌∙◌, ap, subst, arith, append_assoc, Option, None, Some, option_map}
 use Rattle.std.proofs.lemmas.Grind.{common_steps}
 use Rattle.mt_text_spec.specs.Registries.{Registry, base_count}
 use Rattle.mt_text_spec.specs.Texts.{Token, Text, text_tokens_limit}
 use Rattle.mt_file_spec.specs.VerticalLines.{Role, Passes, Opens, Stands, Closes, Gives, Plays}
 use Rattle.mt_file_spec.specs.Vertical.{TextCause, HasCause, AreRead, token_in, tokens_in, past, text_lines, instances_in, Vertical, FirstTextFault}
-use Rattle.mt_vertical.specs.Readers.{State, Kept, IsSound, HasReadLine, Refuses, step, gathered}
-use Rattle.mt_vertical.proofs.Instances.{Stands_for, none_yet, line_more, gathered_all}
+use Rattle.mt_vertical.specs.Causes.{text_cause_of}
+use Rattle.mt_vertical.specs.declared.error.TextCause.{TextCause as RustCause}
+use Rattle.mt_vertical.specs.Readers.{State, Kept, IsSound, HasReadLine, IsRead, Refuses, step, gathered}
+use Rattle.mt_vertical.proofs.KeptInstances.{Stands_for, none_yet, line_more, gathered_all}
 
 -- ## Places
 
@@ -103,6 +105,12 @@ place_before roles tokens t = ap length t ∙ omega (arith, place_is 0 roles)
 
 place_behind : (old new : List Token) (role : Role) → new ≡ old ++ token_in role → past (length old) role ≡ length new
 place_behind old new role t = past_is (length old) role ∙ sym (ap length t ∙ length-both old (token_in role))
+
+-- where no cause is told the line is read
+pub line_is_read : (registry : Registry) (state : State) (line : List ℕ) (new : State) (found : Option RustCause) → found ≡ None → IsRead registry state line new (option_map text_cause_of found) →
+    HasReadLine registry state line new
+line_is_read registry state line new None e h = h
+line_is_read registry state line new (Some cause) e h = cc
 
 -- a line more
 pub line_read : (registry : Registry) (all old rest : List (List ℕ)) (line : List ℕ) (number next : ℕ) (state new : State) → HasRead registry all old number state → old ≡ line ∷ rest → next ≡ number + 1 →

@@ -1,5 +1,5 @@
 -- What a step of reading was made of, and bytes in front that pass.
-use Rattle.std.proofs.Common.{◌≡◌, ℕ, suc, ◌<◌, Bool, true, false, if◌then◌else◌, List, [], ◌∷◌, ◌++◌, length, take, drop, get_or, refl, sym, ◌∙◌, ap, arith, Option, None, Some, IfSome, IfNone, Result, Err}
+use Rattle.std.proofs.Common.{◌≡◌, ℕ, suc, ◌<◌, Bool, true, false, if◌then◌else◌, List, [], ◌∷◌, ◌++◌, length, take, drop, get_or, refl, sym, ◌∙◌, ap, subst, arith, Option, None, Some, IfSome, IfNone}
 use Rattle.std.specs.List.{All, AllPass, prefix_len}
 use Rattle.std.proofs.lemmas.Grind.{common_steps}
 use Rattle.std.proofs.lemmas.List.{take-append-drop}
@@ -37,6 +37,13 @@ some_then (Some x) h k = k x h
 pub none_then : {A : Type 0} → (r : Option A) {P Q : Type 0} → IfNone r P → (P → Q) → IfNone r Q
 none_then None h k = k h
 none_then (Some x) h k = tt
+
+pub at_none : {A P : Type 0} → (o : Option A) → o ≡ None → IfNone o P → P
+at_none None e p = p
+at_none (Some x) e p = cc
+
+pub at_some : {A : Type 0} → (P : A → Type 0) (o : Option A) (x : A) → o ≡ Some x → IfSome o P → P x
+at_some {A} P o x e p = let Q : Option A → Type 0 = λ o. IfSome o P in subst Q e p
 
 -- ## All that pass
 
@@ -85,12 +92,3 @@ front_passes p bytes = All-from_get_or (λ b. p b ≡ true) (take (prefix_len p 
 pub some_pass : (p : ℕ → Bool) (bytes : List ℕ) → starts p bytes ≡ true → 0 < length (take (prefix_len p bytes) bytes)
 some_pass p [] e = cc
 some_pass p (b ∷ bytes) e = rw e (grind (arith, common_steps))
-
--- ## Errors
-
-pub err_same : {T E : Type 0} → (x y : E) → ◌≡◌ {A = Result T E} (Err x) (Err y) → x ≡ y
-err_same x y e = cc
-
--- the error of a `?` is that of its call
-pub same_fault : {T U E : Type 0} → (r : Result T E) (y x v : E) → r ≡ Err y → y ≡ x → r ≡ Err v → ◌≡◌ {A = Result U E} (Err x) (Err v)
-same_fault {T} r y x v q s e = ap (λ f. Err f) (sym s ∙ err_same {T = T} y v (sym q ∙ e))

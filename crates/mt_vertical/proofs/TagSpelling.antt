@@ -1,6 +1,5 @@
 -- Tags: each is read exactly where it is spelled.
 use Rattle.std.proofs.Common.{◌≡◌, ℕ, ◌<◌, Bool, true, false, ◌==◌, if◌then◌else◌, List, [], ◌∷◌, ◌++◌, length, take, drop, get_or, codes, refl, sym, ◌∙◌, ap, subst, arith, append_assoc, Option, None, Some}
-use Rattle.std.specs.Str.{IsUtf8}
 use Rattle.std.specs.List.{AllPass, prefix_len, list_all}
 use Rattle.std.proofs.lemmas.Bool.{and_parts, eqb-true}
 use Rattle.std.proofs.lemmas.Grind.{common_steps}
@@ -10,9 +9,8 @@ use Rattle.memchr.specs.Find.{Nowhere, Passes, is_byte}
 use Rattle.mt_text_spec.specs.Words.{is_identifier_start}
 use Rattle.mt_file_spec.specs.Tags.{is_space, AreSpaces, differs, IsTag, is_tag_name_byte, IsTagName, TagAttr, Tag, OpeningTag, EmptyTag, ClosingTag, SpellsBegin, SpellsEnd, Spells}
 use Rattle.mt_vertical.specs.TagReading.{◌>>=◌, past, starts, behind, identifier_at, tag_name_at, attr_at, ReadsAttrs, ends, tail_at}
-use Rattle.mt_vertical.specs.TagForms.{ReadsBegin, ReadsEnd, begin_form, tag_of, IsBegin, IsEnd, KeepsText, BehindTag, IsFound}
-use Rattle.mt_vertical.proofs.Utf8.{utf8_behind, behind_name}
-use Rattle.mt_vertical.specs.declared.text.tags.Form.{Form}
+use Rattle.mt_vertical.specs.TagForms.{ReadsBegin, ReadsEnd, begin_form, tag_of, IsBegin, IsEnd, BehindTag, IsFound}
+use Rattle.mt_vertical.specs.declared.tags.Form.{Form}
 use Rattle.mt_vertical.proofs.Steps.{then_some, if_some, same, none_some, some_once, all_head, front_of, take_front, left_of, parts, front_passes, some_pass}
 use Rattle.mt_vertical.proofs.AttrForms.{behind_gives, behind_back, starts_of, first_taken, attrs_once, attrs_give, attrs_back}
 
@@ -220,20 +218,15 @@ end_back bytes name s =
 
 -- ## What stands behind `<`
 
-region_text : (bytes name region : List ℕ) (attrs : List TagAttr) (empty : Bool) → ReadsBegin bytes name region attrs empty → IsUtf8 (60 ∷ bytes) → IsUtf8 region
-region_text bytes name region attrs empty r u =
-    let n = name_gives bytes (name, region) r.named in
-    behind_name name region n.1.each (subst IsUtf8 n.0 (utf8_behind [] bytes 60 (omega arith) u))
-
 begin_spells : (bytes name region : List ℕ) (attrs : List TagAttr) (empty : Bool) → ReadsBegin bytes name region attrs empty → BehindTag bytes (begin_form empty) name region
-begin_spells bytes name region attrs false r = record { attrs = attrs; inside = (r.tail, r.read); text = region_text bytes name region attrs false r; spelled = begin_gives bytes name region attrs false r }
-begin_spells bytes name region attrs true r = record { attrs = attrs; inside = (r.tail, r.read); text = region_text bytes name region attrs true r; spelled = begin_gives bytes name region attrs true r }
+begin_spells bytes name region attrs false r = record { attrs = attrs; inside = (r.tail, r.read); spelled = begin_gives bytes name region attrs false r }
+begin_spells bytes name region attrs true r = record { attrs = attrs; inside = (r.tail, r.read); spelled = begin_gives bytes name region attrs true r }
 
 pub begin_found : (bytes name region : List ℕ) (f : Form) → IsBegin bytes f name region → BehindTag bytes f name region
 begin_found bytes name region f i = rw i.formed (begin_spells bytes name region i.attrs i.empty i.read)
 
 pub end_found : (bytes rest name region : List ℕ) (f : Form) → behind 47 bytes ≡ Some rest → IsEnd rest f name → BehindTag bytes f name region
-end_found bytes rest name region f b i = rw (i.formed, behind_gives 47 bytes rest b) (record { attrs = []; inside = tt; text = tt; spelled = end_gives rest name i.read })
+end_found bytes rest name region f b i = rw (i.formed, behind_gives 47 bytes rest b) (record { attrs = []; inside = tt; spelled = end_gives rest name i.read })
 
 no_slash : (name rest : List ℕ) (b : ℕ) (bytes : List ℕ) → IsTagName name → b ∷ bytes ≡ name ++ rest → b ≡ 47 → ⊥
 no_slash [] rest b bytes n e f = let some : 0 < 0 = n.some in absurd (omega arith)
@@ -287,20 +280,19 @@ no_bracket line none (ClosingTag name) t = none_some (behind 60 line) (47 ∷ (n
 differs_from : (b : ℕ) → ¬ ((b == 9) ≡ true) → differs 9 b ≡ true
 differs_from b n = grind (arith, n)
 
-pub no_tab : (line : List ℕ) → Nowhere (Passes (is_byte 9) line) 0 (length line) → AllPass (differs 9) line
-no_tab line none = All-from_get_or (λ b. differs 9 b ≡ true) line 0 (λ k l. differs_from (get_or line k 0) (λ e. none k (omega arith) l e))
+free_of_tabs : (line : List ℕ) → Nowhere (Passes (is_byte 9) line) 0 (length line) → AllPass (differs 9) line
+free_of_tabs line none = All-from_get_or (λ b. differs 9 b ≡ true) line 0 (λ k l. differs_from (get_or line k 0) (λ e. none k (omega arith) l e))
+
+pub no_tab : (line seen : List ℕ) → seen ≡ line → Nowhere (Passes (is_byte 9) seen) 0 (length seen) → AllPass (differs 9) line
+no_tab line seen s none = subst (AllPass (differs 9)) s (free_of_tabs seen none)
 
 a_tab : (line : List ℕ) (k : ℕ) → k < length line → Passes (is_byte 9) line k → AllPass (differs 9) line → ⊥
 a_tab line k l e all = let h : differs 9 (get_or line k 0) ≡ true = all k 0 l in grind (arith, h, e)
-
-keeps_text : (f : Form) (line bytes region : List ℕ) → line ≡ 60 ∷ bytes → KeepsText f (60 ∷ bytes) region → KeepsText f line region
-keeps_text f line bytes region e h = rw e h
 
 pub found_line : (line bytes name region : List ℕ) (f : Form) → behind 60 line ≡ Some bytes → AllPass (differs 9) line → BehindTag bytes f name region → IsFound line f name region
 found_line line bytes name region f b t h = record {
   attrs = h.attrs;
   inside = h.inside;
-  text = keeps_text f line bytes region (behind_gives 60 line bytes b) h.text;
   spelled = record { spelled = let P : List ℕ → Type 0 = λ l. Spells l (tag_of f name h.attrs) in subst P (sym (behind_gives 60 line bytes b)) h.spelled; untabbed = t };
 }
 

@@ -14,7 +14,7 @@ use Rattle.mt_file_spec.specs.VerticalLines.{Role, Passes, Opens, Stands, Closes
 use Rattle.mt_file_spec.specs.Vertical.{NotUtf8, TooManyTokens, ValueTooLong, AreRead, kept, token_in, tokens_in, past, is_tag_of, next_place, begun, instances_from, instances_in, text_lines, without_mark, Vertical}
 use Rattle.mt_vertical.specs.Readers.{AreShort}
 use Rattle.mt_vertical.proofs.SoFar.{IsGood, place_after, place_is}
-use Rattle.mt_vertical.proofs.Values.{IsClean, lines_free, short_from, text_from, columns_clean, first_len, first_clean, all_valid, tag_clean, values_clean, values_len}
+use Rattle.mt_vertical.proofs.KeptValues.{IsClean, lines_free, short_from, text_from, columns_clean, first_len, first_clean, all_valid, tag_clean, values_clean, values_len}
 
 -- ## One line
 

@@ -1,14 +1,6 @@
+pub mod Causes
 pub mod Lines
-pub mod Misstated
-pub mod ReadLines
 pub mod Readers
-pub mod Refusals
-pub mod RegistryErrors
-pub mod RegistryForms
-pub mod RegistryLaws
-pub mod SeenBlock
-pub mod SeenForm
-pub mod Sound
 pub mod TagForms
 pub mod TagReading
 pub mod TextLaws

@@ -73,6 +73,11 @@ pub record Refuses (registry : Registry) (state : State) (line : List ℕ) (caus
   pub has : HasCause registry (length state.tokens) line cause
   pub first : (other : TextCause) → cause_rank other < cause_rank cause → ¬ HasCause registry (length state.tokens) line other
 
+-- a line was read, or has this cause first
+abbrev pub IsRead : Registry → State → List ℕ → State → Option TextCause → Type 0
+IsRead registry old line new None = HasReadLine registry old line new
+IsRead registry old line new (Some cause) = Refuses registry old line cause
+
 -- all of these are short enough
 abbrev pub AreShort : List (List ℕ) → Type 0
 AreShort values = All (λ value. length value ≤ value_bytes_limit) values

@@ -1,9 +1,9 @@
 -- What the functions that read tags find.
-use Rattle.std.specs.Prelude.{ℕ, ◌≡◌, Bool, true, false, List, ◌∷◌, Some, IsUtf8}
+use Rattle.std.specs.Prelude.{ℕ, ◌≡◌, Bool, true, false, List, ◌∷◌, Some}
 use Rattle.mt_file_spec.specs.Tags.{TagAttr, Tag, OpeningTag, EmptyTag, ClosingTag, Spells, IsTag}
 use Rattle.mt_vertical.specs.TagReading.{tag_name_at, tail_at, ReadsAttrs}
-use Rattle.mt_vertical.specs.declared.text.tags.Form.{Form}
-use Rattle.mt_vertical.specs.declared.text.tags.Form.TheVariants.{Opening, Empty, Closing}
+use Rattle.mt_vertical.specs.declared.tags.Form.{Form}
+use Rattle.mt_vertical.specs.declared.tags.Form.TheVariants.{Opening, Empty, Closing}
 
 -- behind `<`: a name, a region in which these attributes are, and an end
 pub record ReadsBegin (bytes name region : List ℕ) (attrs : List TagAttr) (empty : Bool) : Type 0 where
@@ -45,26 +45,14 @@ abbrev pub InRegion : Form → List ℕ → List TagAttr → Type 0
 InRegion Closing region attrs = Unit {0}
 InRegion form region attrs = (tail : List ℕ) × ReadsAttrs region attrs tail
 
--- the region of a tag that has attributes is UTF-8
-abbrev pub HasText : Form → List ℕ → Type 0
-HasText Closing region = Unit {0}
-HasText form region = IsUtf8 region
-
--- the region is UTF-8 where the line is
-abbrev pub KeepsText : Form → List ℕ → List ℕ → Type 0
-KeepsText Closing line region = Unit {0}
-KeepsText form line region = IsUtf8 line → IsUtf8 region
-
 -- the line is the tag of this form and name, whose attributes are in the region
 pub record IsFound (line : List ℕ) (form : Form) (name region : List ℕ) : Type 0 where
   pub attrs : List TagAttr
   pub inside : InRegion form region attrs
-  pub text : KeepsText form line region
   pub spelled : IsTag line (tag_of form name attrs)
 
 -- the same of what stands behind the `<`
 pub record BehindTag (bytes : List ℕ) (form : Form) (name region : List ℕ) : Type 0 where
   pub attrs : List TagAttr
   pub inside : InRegion form region attrs
-  pub text : KeepsText form (60 ∷ bytes) region
   pub spelled : Spells (60 ∷ bytes) (tag_of form name attrs)

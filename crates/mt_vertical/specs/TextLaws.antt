@@ -1,7 +1,8 @@
 -- Bytes are read as one text, or refused for one cause.
 use Rattle.std.specs.Prelude.{◌≡◌, ℕ, List}
 use Rattle.mt_text_spec.specs.Registries.{Registry, ValidRegistry}
-use Rattle.mt_text_spec.specs.Texts.{Text}
+use Rattle.mt_text_spec.specs.Texts.{Text, ValidText}
+use Rattle.mt_text_spec.specs.Words.{IsName}
 use Rattle.mt_file_spec.specs.VerticalLines.{Role, Plays}
 use Rattle.mt_file_spec.specs.Vertical.{TextCause, Vertical, FirstTextFault}
 
@@ -12,6 +13,10 @@ OneRole = (registry : Registry) (line : List ℕ) (a b : Role) → ValidRegistry
 -- bytes are read as at most one text
 abbrev pub OneText : Type 0
 OneText = (registry : Registry) (name bytes : List ℕ) (a b : Text) → ValidRegistry registry → Vertical registry name bytes a → Vertical registry name bytes b → a ≡ b
+
+-- what they are read as is valid
+abbrev pub ValidTexts : Type 0
+ValidTexts = (registry : Registry) (name bytes : List ℕ) (text : Text) → IsName name → Vertical registry name bytes text → ValidText registry text
 
 -- they are read as none where a line has a cause
 abbrev pub NoTextWithFault : Type 0

@@ -11,11 +11,11 @@ ghost use Rattle.mt_shell.specs.Fetches.{Finds, failures};
 ghost use Rattle.mt_shell.specs.Answers.{Answers, AnswersAlone, Stepped, KeepsText, ReadsText};
 
 use super::super::fetch::{Fetched, fetch};
-use super::super::reading::{NoText, text_of};
 use super::super::refusal::Refusal;
 use super::{Reply, Session, count_line, failed, refused};
 use mt_base::{NoMemory, Text, Value};
 use mt_outside::Shelf;
+use mt_vertical::{TextError, read_text};
 
 impl Session {
     /// `text`: holds the text that the body is, unless its name is taken.
@@ -63,13 +63,13 @@ impl Session {
         ensures reads { ReadsText self.old name.now bytes.now result self.new }
         ensures valid { ValidRegistry self.old.registry }
     {
-        match text_of(self.alloc, name.as_str(), bytes, &self.registry) {
+        let Ok(own_name) = name.copy(self.alloc) else {
+            return Reply::NoMemory;
+        };
+        match read_text(self.alloc, own_name, bytes, &self.registry) {
             Ok(text) => self.keep_text(text),
-            Err(NoText::Bad(line, cause)) => refused(
-                self.alloc,
-                &Refusal::BadVertical(line, cause),
-            ),
-            Err(NoText::NoMemory) => Reply::NoMemory,
+            Err(TextError::Bad(line)) => refused(self.alloc, &Refusal::BadVertical(line)),
+            Err(TextError::NoMemory) => Reply::NoMemory,
         }
     }
 

@@ -11,11 +11,11 @@ ghost use Rattle.mt_shell.specs.Answers.{Answers, Stepped, SetsTo, ReadsRegistry
 
 use super::super::corpus::Corpus;
 use super::super::fetch::{Fetched, fetch};
-use super::super::reading::{NoRegistry, registry_of};
 use super::super::refusal::Refusal;
 use super::{Reply, Session, failed, ok_line, refused};
 use mt_base::{List, Registry, Value};
 use mt_outside::Shelf;
+use mt_registry::{RegistryError, read_registry};
 
 impl Session {
     /// `registry`: the registry of the file holds from now on.
@@ -50,18 +50,15 @@ impl Session {
         }
     }
 
-    /// Reads the registry that these bytes are.
+    /// Reads the registry that these bytes are. No mapper is at hand yet.
     fn read_registry(&mut self, bytes: &List<u8>) -> Reply
         ensures { ReadsRegistry self.old bytes.now result self.new }
     {
-        match registry_of(self.alloc, bytes.as_slice()) {
+        match read_registry(self.alloc, bytes.as_slice(), &List::new(self.alloc)) {
             Ok(registry) => self.keep_registry(registry),
-            Err(NoRegistry::Bad(line, cause)) => refused(
-                self.alloc,
-                &Refusal::BadRegistry(line, cause),
-            ),
-            Err(NoRegistry::NoAttribute) => refused(self.alloc, &Refusal::NoAttribute),
-            Err(NoRegistry::NoMemory) => Reply::NoMemory,
+            Err(RegistryError::Bad(line)) => refused(self.alloc, &Refusal::BadRegistry(line)),
+            Err(RegistryError::NoAttribute) => refused(self.alloc, &Refusal::NoAttribute),
+            Err(RegistryError::NoMemory) => Reply::NoMemory,
         }
     }
 

@@ -1,0 +1,10 @@
+pub mod Blamed
+pub mod RegistryBuild
+pub mod RegistryFaults
+pub mod RegistryForms
+pub mod RegistryGroups
+pub mod RegistryLaws
+pub mod RegistryLines
+pub mod RegistryValid
+pub mod Splits
+pub mod Trims

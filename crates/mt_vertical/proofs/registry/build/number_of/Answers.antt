@@ -1,6 +1,0 @@
-use Rattle.std.proofs.Common.{arith}
-use Rattle.mt_vertical.proofs.RegistryBuild.{number_within}
-use Rattle.mt_vertical.proofs.registry.build.number_of.Goals as goal
-
-pub returns-clause-few : goal.returns-clause-few
-returns-clause-few c = omega (arith, c.attributes_before.ensures, number_within c.args.name.now c.args.all.now)

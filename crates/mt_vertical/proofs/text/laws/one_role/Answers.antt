@@ -1,5 +1,0 @@
-use Rattle.mt_vertical.proofs.OneRole.{plays_once}
-use Rattle.mt_vertical.proofs.text.laws.one_role.Goals as goal
-
-pub returns : goal.returns
-returns c = plays_once

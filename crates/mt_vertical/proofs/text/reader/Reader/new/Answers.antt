@@ -1,5 +1,0 @@
-use Rattle.mt_vertical.proofs.text.reader.Reader.new.Goals as goal
-use Rattle.mt_vertical.proofs.Filled.{copy_push}
-
-pub loop-preserved : goal.loop-preserved
-loop-preserved c = copy_push _ _ _ _ _ c.in_ok-push.ensures.items c.loop.invariant c.new.ensures
