@@ -1,48 +1,44 @@
--- Values numbered as they are first seen, over keys that have bytes.
-use Rattle.std.proofs.Common.{◌≡◌, ℕ, ◌+◌, ◌≤◌, Bool, true, false, ◌||◌, List, [], ◌∷◌, ◌++◌, length, map, get_or, slice_get, position, Some, refl, sym, ◌∙◌, ap, arith, length-append, if◌then◌else◌}
-use Rattle.std.specs.Option.{option_map}
-use Rattle.std.specs.List.{list_any}
+-- Values numbered as they are first seen.
+use Rattle.std.proofs.Common.{◌≡◌, ℕ, ◌+◌, ◌<◌, ◌≤◌, Bool, true, false, List, [], ◌∷◌, ◌++◌, length, get_or, slice_get, Some, refl, sym, ◌∙◌, ap, arith, ◌⊎◌, inl, inr, length-append, if◌then◌else◌}
+use Rattle.std.specs.List.{list_any, Contains}
 use Rattle.std.specs.Str.{bytes_eq}
 use Rattle.std.specs.Cmp.Lexicographic.{bytes_decides}
-use Rattle.std.proofs.lemmas.List.{map-append}
-use Rattle.std.proofs.lemmas.List.Quantifiers.{position-Some}
-use Rattle.std.proofs.lemmas.Option.{slice_get-map, slice_get-get_or}
+use Rattle.std.proofs.lemmas.Bool.{cases_lt}
+use Rattle.std.proofs.lemmas.List.{get_or_append_left, get_or_push, get_or_default}
+use Rattle.std.proofs.lemmas.List.Elements.{All-from_get_or}
+use Rattle.std.proofs.lemmas.List.Folds.{list_any_at, list_any_none}
+use Rattle.std.proofs.lemmas.Option.{get_or_from_slice_get, slice_get_within}
 use Rattle.mt_store_spec.specs.Lexicons.{seen_with}
+use Rattle.mt_lexicon.specs.Entries.{AreDistinct}
 
-module _ {X : Type 0} (f : X → List ℕ) where
-  list_any-map : (p : List ℕ → Bool) (keys : List X) → list_any p (map f keys) ≡ list_any (λ k. p (f k)) keys
-  list_any-map p [] = refl
-  list_any-map p (k ∷ keys) = ap (λ (b : Bool). p (f k) || b) (list_any-map p keys)
+-- a value that is there is not added
+pub seen_again : (values : List (List ℕ)) (value : List ℕ) (n : ℕ) → slice_get values n ≡ Some value → values ≡ seen_with values value
+seen_again values value n at =
+    let is : get_or values n [] ≡ value = get_or_from_slice_get values n value [] at in
+    let e : list_any (bytes_eq value) values ≡ true = list_any_at (bytes_eq value) values n [] (slice_get_within values n value at) ((bytes_decides value (get_or values n [])).1 (sym is)) in
+    sym (ap (λ (b : Bool). if b then values else values ++ value ∷ []) e)
 
-  -- a value that is there is not added
-  pub seen_again : (value : List ℕ) (keys : List X) → list_any (λ k. bytes_eq value (f k)) keys ≡ true → map f keys ≡ seen_with (map f keys) value
-  seen_again value keys h =
-      let e : list_any (bytes_eq value) (map f keys) ≡ true = list_any-map (bytes_eq value) keys ∙ h in
-      sym (ap (λ (b : Bool). if b then map f keys else map f keys ++ value ∷ []) e)
+-- a value that is not there is added at the end
+pub seen_first : (values : List (List ℕ)) (value : List ℕ) → (Contains values value → ⊥) → values ++ value ∷ [] ≡ seen_with values value
+seen_first values value none =
+    let e : list_any (bytes_eq value) values ≡ false =
+    list_any_none (bytes_eq value) values (All-from_get_or (λ x. bytes_eq value x ≡ false) values [] (λ i l. other i l (bytes_eq value (get_or values i [])) refl)) in
+    sym (ap (λ (b : Bool). if b then values else values ++ value ∷ []) e)
+  where
+    other : (i : ℕ) → i < length values → (b : Bool) → bytes_eq value (get_or values i []) ≡ b → bytes_eq value (get_or values i []) ≡ false
+    other i l true e = absurd (none (i, l, get_or_default values i value [] l ∙ sym ((bytes_decides value (get_or values i [])).0 e)))
+    other i l false e = e
 
-  -- and has its number
-  pub seen_at : (value : List ℕ) (keys : List X) (n : ℕ) → position (λ k. bytes_eq value (f k)) keys ≡ Some n → slice_get (map f keys) n ≡ Some value
-  seen_at value [] n h = cc
-  seen_at value (k ∷ keys) n h =
-      let at = position-Some (λ k. bytes_eq value (f k)) (k ∷ keys) n k h in
-      slice_get-map f (k ∷ keys) n ∙ ap (option_map f) (slice_get-get_or (k ∷ keys) n k at.0) ∙ ap Some (sym ((bytes_decides value (f (get_or (k ∷ keys) n k))).0 at.1))
-
-  -- a value that is not there goes last
-  pub seen_first : (value : List ℕ) (keys more : List X) (key : X) → more ≡ (if list_any (λ k. bytes_eq (f key) (f k)) keys then keys else keys ++ key ∷ []) → f key ≡ value →
-      map f more ≡ seen_with (map f keys) value
-  seen_first value keys more key grown e =
-      let test : list_any (λ k. bytes_eq (f key) (f k)) keys ≡ list_any (bytes_eq value) (map f keys) =
-      ap (λ (v : List ℕ). list_any (λ k. bytes_eq v (f k)) keys) e ∙ sym (list_any-map (bytes_eq value) keys) in
-      ap (map f) grown ∙ by (list_any (λ k. bytes_eq (f key) (f k)) keys) ∙ ap (λ (b : Bool). if b then map f keys else map f keys ++ value ∷ []) test
-    where
-      by : (b : Bool) → map f (if b then keys else keys ++ key ∷ []) ≡ (if b then map f keys else map f keys ++ value ∷ [])
-      by true = refl
-      by false = map-append f keys (key ∷ []) ∙ ap (λ (v : List ℕ). map f keys ++ v ∷ []) e
-
-  -- and what is stored at its number has its bytes
-  pub stored_at : (value : List ℕ) (more : List X) (key : X) (n : ℕ) → f key ≡ value → (k : X) × (slice_get more n ≡ Some k) × (bytes_eq (f key) (f k) ≡ true) → slice_get (map f more) n ≡ Some value
-  stored_at value more key n e (k, at, same) =
-      slice_get-map f more n ∙ ap (option_map f) at ∙ ap Some (sym ((bytes_decides (f key) (f k)).0 same) ∙ e)
+-- and all stay distinct
+pub distinct_more : (values : List (List ℕ)) (value : List ℕ) → AreDistinct values → (Contains values value → ⊥) → AreDistinct (values ++ value ∷ [])
+distinct_more values value apart none = λ i j low l same. by i j low (cases_lt j (length values)) (omega (arith, length-append values (value ∷ []))) same
+  where
+    by : (i j : ℕ) → i < j → (j < length values) ⊎ (length values ≤ j) → j < length values + 1 → get_or (values ++ value ∷ []) i [] ≡ get_or (values ++ value ∷ []) j [] → ⊥
+    by i j low (inl l) m same = apart i j low l (sym (get_or_append_left values (value ∷ []) [] i (omega arith)) ∙ same ∙ get_or_append_left values (value ∷ []) [] j l)
+    by i j low (inr l) m same =
+        let e : length values ≡ j = omega arith in
+        let within : i < length values = omega arith in
+        none (i, within, get_or_default values i value [] within ∙ sym (get_or_append_left values (value ∷ []) [] i within) ∙ same ∙ get_or_push values value [] j e)
 
 -- at most one value more
 pub length-seen_with : (values : List (List ℕ)) (value : List ℕ) → length (seen_with values value) ≤ length values + 1

@@ -75,7 +75,7 @@ waits list j values others v h below = record {
 
 -- ---- both sides
 
-ascending_more : (values : List (List ℕ)) (v : List ℕ) → IsAscending values → All (λ w. IsBelow w v) values → IsAscending (values ++ v ∷ [])
+pub ascending_more : (values : List (List ℕ)) (v : List ℕ) → IsAscending values → All (λ w. IsBelow w v) values → IsAscending (values ++ v ∷ [])
 ascending_more values v up low = λ i j d b l. by i j d (cases_lt j (length values)) b (omega (arith, length-append values (v ∷ [])))
   where
     by : (i j : ℕ) (d : List ℕ) → (j < length values) ⊎ (length values ≤ j) → i < j → j < length values + 1 → IsBelow (get_or (values ++ v ∷ []) i d) (get_or (values ++ v ∷ []) j d)

@@ -1,9 +1,13 @@
+pub mod Chains
+pub mod FirstBytes
 pub mod FirstSight
 pub mod Halves
 pub mod Joined
+pub mod Kept
 pub mod Lexicons
 pub mod Merged
 pub mod Order
 pub mod Places
 pub mod Renumbered
 pub mod Sorted
+pub mod Sought

@@ -1,5 +1,5 @@
 -- The order of bytes.
-use Rattle.std.proofs.Common.{◌≡◌, ℕ, ◌+◌, ◌<◌, ◌≤◌, List, [], length, get_or, slice_get, Option, Some, None, refl, sym, ◌∙◌, ap, subst, arith, ◌⊎◌, inl, inr}
+use Rattle.std.proofs.Common.{◌≡◌, ℕ, zero, suc, ◌+◌, ◌-◌, ◌<◌, ◌≤◌, List, [], length, get_or, slice_get, Option, Some, None, refl, sym, ◌∙◌, ap, subst, arith, ◌⊎◌, inl, inr}
 use Rattle.std.specs.Ordering.{nat_cmp, ordering_reverse, is_eq}
 use Rattle.std.specs.Cmp.{IsTotalOrder}
 use Rattle.std.specs.Cmp.Lexicographic.{slice_cmp, nat_list_cmp_total, texts_ties, bytes_decides}
@@ -80,3 +80,40 @@ pub ended : (first : List (List ℕ)) (i : ℕ) (second : List (List ℕ)) (j : 
     (i ≡ length first) × (j ≡ length second)
 ended first i second j None h n = h
 ended first i second j (Some x) h n = absurd (n x refl)
+
+-- where each value is below the next one, each is below every later one
+pub rising_on : (values : List (List ℕ)) → ((k : ℕ) → k + 1 < length values → IsBelow (get_or values k []) (get_or values (k + 1) [])) → IsAscending values
+rising_on values next = λ i j d low l.
+    subst (λ (v : List ℕ). IsBelow v (get_or values j d)) (get_or_default values i [] d (omega arith))
+    (subst (IsBelow (get_or values i [])) (get_or_default values j [] d l) (far i j low l))
+  where
+    far : (i j : ℕ) → i < j → j < length values → IsBelow (get_or values i []) (get_or values j [])
+    far i zero low l = absurd (omega arith)
+    far i (suc j) low l = by (cases_lt i j) (far i j)
+      where
+        step : IsBelow (get_or values j []) (get_or values (suc j) [])
+        step = let e : j + 1 ≡ suc j = omega arith in subst (λ (n : ℕ). IsBelow (get_or values j []) (get_or values n [])) e (next j (omega arith))
+
+        by : (i < j) ⊎ (j ≤ i) → (i < j → j < length values → IsBelow (get_or values i []) (get_or values j [])) → IsBelow (get_or values i []) (get_or values (suc j) [])
+        by (inl less) before = chained (get_or values i []) (get_or values j []) (get_or values (suc j) []) (before less (omega arith)) step
+        by (inr same) before = let e : j ≡ i = omega arith in subst (λ (n : ℕ). IsBelow (get_or values n []) (get_or values (suc j) [])) e step
+
+-- one more value that is below the next
+pub next_more : (values : List (List ℕ)) (place : ℕ) (a b : List ℕ) → ((k : ℕ) → k + 1 < place → IsBelow (get_or values k []) (get_or values (k + 1) [])) → 1 ≤ place → slice_get values (place - 1) ≡ Some a → slice_get values place ≡ Some b → IsBelow a b →
+    (k : ℕ) → k + 1 < place + 1 → IsBelow (get_or values k []) (get_or values (k + 1) [])
+next_more values place a b before some at there below k l = by (cases_lt (k + 1) place)
+  where
+    by : (k + 1 < place) ⊎ (place ≤ k + 1) → IsBelow (get_or values k []) (get_or values (k + 1) [])
+    by (inl m) = before k m
+    by (inr m) =
+        let e : place - 1 ≡ k = omega arith in
+        let f : place ≡ k + 1 = omega arith in
+        subst (λ (n : ℕ). IsBelow (get_or values n []) (get_or values (k + 1) [])) e
+        (subst (λ (n : ℕ). IsBelow (get_or values (place - 1) []) (get_or values n [])) f (rw (read_at values (place - 1) a at, read_at values place b there) below))
+
+-- values of an ascending list that stand side by side
+pub side_by_side : (values : List (List ℕ)) (place : ℕ) (a b : List ℕ) → IsAscending values → 1 ≤ place → slice_get values (place - 1) ≡ Some a → slice_get values place ≡ Some b → IsBelow a b
+side_by_side values place a b up some at there =
+    let low : place < length values = slice_get_within values place b there in
+    let is : IsBelow (get_or values (place - 1) []) (get_or values place []) = up (place - 1) place [] (omega arith) low in
+    rw (read_at values (place - 1) a at, read_at values place b there) at is

@@ -1,11 +1,11 @@
 -- Items that are changed one after the other, and renumberings that go on to another list.
-use Rattle.std.proofs.Common.{◌≡◌, ℕ, ◌+◌, ◌<◌, List, [], ◌∷◌, ◌++◌, length, map, take, drop, get_or, set, slice_get, sym, ◌∙◌, ap, ap₂, arith}
+use Rattle.std.proofs.Common.{◌≡◌, ℕ, ◌+◌, ◌<◌, Bool, true, List, [], ◌∷◌, ◌++◌, length, map, take, drop, get_or, set, slice_get, Some, sym, ◌∙◌, ap, ap₂, arith}
 use Rattle.std.specs.List.{All}
 use Rattle.std.proofs.lemmas.List.{length-set, get_or-set_same, take_more_set, drop_more, drop-set, map_more, get_or-map, length-map}
 use Rattle.std.proofs.lemmas.List.Elements.{All-from_get_or}
 use Rattle.std.proofs.lemmas.Option.{slice_get-get_or, slice_get_within}
-use Rattle.mt_store_spec.specs.Lexicons.{Renumbers}
-use Rattle.mt_lexicon.specs.Joins.{renumbered}
+use Rattle.mt_store_spec.specs.Lexicons.{Renumbers, RenumbersKept}
+use Rattle.mt_lexicon.specs.Joins.{renumbered, RenumberInTurn}
 
 -- ---- a loop that changes each item
 
@@ -53,6 +53,18 @@ numbers_within numbers old new h = All-from_get_or (λ n. n < length new) number
     let m : k < length old = omega (arith, h.count) in
     slice_get_within new (get_or numbers k 0) (get_or old k []) (h.same k m ∙ slice_get-get_or old k [] m))
 
+-- a kept value's number is one of the new list
+kept_within : (flags : List Bool) (numbers : List ℕ) (old new : List (List ℕ)) (k : ℕ) → RenumbersKept flags numbers old new → k < length old → slice_get flags k ≡ Some true → get_or numbers k 0 < length new
+kept_within flags numbers old new k h l keep = slice_get_within new (get_or numbers k 0) (get_or old k []) (h.same k l keep ∙ slice_get-get_or old k [] l)
+
+kept_then : (flags : List Bool) (numbers next : List ℕ) (old middle new : List (List ℕ)) → RenumbersKept flags numbers old middle → Renumbers next middle new → RenumbersKept flags (renumbered next numbers) old new
+kept_then flags numbers next old middle new h g = record {
+  count = length-map numbers (λ n. get_or next n 0) ∙ h.count;
+  same = λ k l keep.
+      let within : k < length numbers = omega (arith, h.count) in
+      ap (slice_get new) (get_or-map (λ (n : ℕ). get_or next n 0) numbers k 0 0 within) ∙ g.same (get_or numbers k 0) (kept_within flags numbers old middle k h l keep) ∙ h.same k l keep;
+}
+
 -- one renumbering after another
 pub renumbers_then : (numbers next : List ℕ) (old middle new : List (List ℕ)) → Renumbers numbers old middle → Renumbers next middle new → Renumbers (renumbered next numbers) old new
 renumbers_then numbers next old middle new h g = record {
@@ -62,3 +74,6 @@ renumbers_then numbers next old middle new h g = record {
       let low : get_or numbers k 0 < length middle = numbers_within numbers old middle h k 0 within in
       ap (slice_get new) (get_or-map (λ (n : ℕ). get_or next n 0) numbers k 0 0 within) ∙ g.same (get_or numbers k 0) low ∙ h.same k l;
 }
+
+pub in_turn : RenumberInTurn
+in_turn = record { all = λ numbers next old middle new h g. renumbers_then numbers next old middle new h g; kept = λ flags numbers next old middle new h g. kept_then flags numbers next old middle new h g }

@@ -1,8 +1,8 @@
 -- How two lexicons are joined.
-use Rattle.std.specs.Prelude.{ℕ, ◌≡◌, ◌+◌, ◌<◌, ◌≤◌, List, [], ◌++◌, length, map, slice_index, slice_index_or, Option, Some, None}
+use Rattle.std.specs.Prelude.{ℕ, Bool, ◌≡◌, ◌+◌, ◌<◌, ◌≤◌, List, [], ◌++◌, length, map, slice_index, slice_index_or, Option, Some, None}
 use Rattle.std.specs.declared.cmp.Ordering.{Ordering}
 use Rattle.std.specs.declared.cmp.Ordering.TheVariants.{Less, Equal, Greater}
-use Rattle.mt_store_spec.specs.Lexicons.{IsBelow, IsLexiconOf, Renumbers, all_values}
+use Rattle.mt_store_spec.specs.Lexicons.{IsBelow, IsLexiconOf, Renumbers, RenumbersKept, all_values}
 use Rattle.std.specs.List.{AllZip}
 
 -- which of two lists has the next value, from these places on, where the end of a list is above every value
@@ -22,6 +22,12 @@ pub record Joins (first second values : List (List ℕ)) (of_first of_second : L
 -- numbers that are renumbered in their turn
 abbrev pub renumbered : List ℕ → List ℕ → List ℕ
 renumbered next numbers = map (λ n. slice_index next n) numbers
+
+-- values that are renumbered in turn, from an old list to a middle one and from there to a new one, are renumbered from the old one to the new one; so are
+-- values that are kept
+pub record RenumberInTurn : Type 0 where
+  pub all : (numbers next : List ℕ) (old middle new : List (List ℕ)) → Renumbers numbers old middle → Renumbers next middle new → Renumbers (renumbered next numbers) old new
+  pub kept : (flags : List Bool) (numbers next : List ℕ) (old middle new : List (List ℕ)) → RenumbersKept flags numbers old middle → Renumbers next middle new → RenumbersKept flags (renumbered next numbers) old new
 
 -- two lexicons joined, where each stands for parts with renumberings of their own: these go on to the joined lexicon
 pub record JoinsMerged (first second values : List (List ℕ)) (firsts seconds all : List (List ℕ)) : Type 0 where

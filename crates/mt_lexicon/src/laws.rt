@@ -1,5 +1,6 @@
 //! Laws of lexicons, each the contract of a function that does nothing.
 
+ghost use Rattle.mt_lexicon.specs.Joins.{RenumberInTurn};
 ghost use Rattle.mt_store_spec.specs.Lexicons.{HaveALexicon, HaveOneLexicon, IsToldByMembers, IsShortest};
 
 /// Values have a lexicon.
@@ -20,4 +21,9 @@ pub fn is_told_by_members()
 /// A lexicon is no longer than any list that holds all of its values.
 pub fn is_shortest()
     ensures { IsShortest }
+{}
+
+/// Values that are renumbered twice are renumbered by the second renumbering after the first.
+pub fn renumber_in_turn()
+    ensures { RenumberInTurn }
 {}

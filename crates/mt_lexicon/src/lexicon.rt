@@ -1,10 +1,12 @@
 //! The values of a lexicon, and where a value stands among them.
 
-ghost use Rattle.std.specs.Prelude.{◌≡◌, ℕ, ◌+◌, ◌-◌, ◌*◌, ◌^◌, ◌<◌, ◌≤◌, length, slice_get, nat_eq, Some, IfSome, IfNone};
+ghost use Rattle.std.specs.Prelude.{◌≡◌, ℕ, ◌+◌, ◌-◌, ◌*◌, ◌^◌, ◌<◌, ◌≤◌, length, slice_get, nat_eq, Some, IfSome, IfNone, IfOk, Decides};
 ghost use Rattle.std.specs.List.{Contains};
-ghost use Rattle.mt_store_spec.specs.Lexicons.{IsAscending};
+ghost use Rattle.mt_store_spec.specs.Lexicons.{IsAscending, IsBelow, RenumbersKept, kept_values};
 
-use mt_base::{Steps, Strings};
+use super::renumbering::Renumbering;
+use mt_base::{NoMemory, Steps, Strings};
+use std::alloc::Global;
 use std::cmp::Ordering;
 use std::marker::Model;
 use std::sync::ledger::Ledger;
@@ -34,6 +36,43 @@ impl Lexicon {
         ensures { result ≡ values }
     {
         Lexicon { values }
+    }
+
+    /// The lexicon of these values, or `None` where they are none: where they do not ascend, or are 2^32 or more.
+    pub fn of_ascending(values: Strings) -> Option<Self>
+        ensures some { IfSome result (λ lexicon. lexicon ≡ values) }
+        ensures none { IfNone result (IsAscending values → length values < 2 ^ 32 → ⊥) }
+    {
+        if values.len() >= 1 << 32 {
+            return None;
+        }
+        if !is_ascending(&values) {
+            return None;
+        }
+        Some(Lexicon::from_strings(values))
+    }
+
+    /// The lexicon of the values that are kept, each flag telling whether the value with its number is, and for each number the one there.
+    /// The new number of a value that is not kept means nothing.
+    pub fn of_kept(&self, alloc: Global, kept: &[bool]) -> Result<(Self, Renumbering), NoMemory>
+        requires { length kept.now ≡ length self.now }
+        ensures values { IfOk result (λ r. r.0 ≡ kept_values kept.now self.now) }
+        ensures numbers { IfOk result (λ r. RenumbersKept kept.now r.1 self.now r.0) }
+    {
+        let mut values = Strings::new(alloc);
+        let mut numbers = Vec::with_capacity(alloc, kept.len())?;
+        for (number, keep) in kept.iter().enumerate() {
+            let value = self.values.get(number);
+            numbers.push(values.len() as u32)?;
+            if *keep {
+                values.push(value)?;
+            }
+        }
+        values.shrink_to_fit();
+        Ok((
+            Lexicon::from_strings(values),
+            Renumbering::from_vec(numbers),
+        ))
     }
 
     /// How many values there are.
@@ -80,4 +119,23 @@ impl Lexicon {
         }
         None
     }
+}
+
+/// Whether each value is below the next.
+fn is_ascending(values: &Strings) -> bool
+    ensures { Decides result (IsAscending values.now) }
+{
+    for place in 1..values.len() {
+        if !is_below(values.get(place - 1), values.get(place)) {
+            return false;
+        }
+    }
+    true
+}
+
+/// Whether a value comes before another.
+fn is_below(value: &str, other: &str) -> bool
+    ensures { Decides result (IsBelow value.now other.now) }
+{
+    value < other
 }

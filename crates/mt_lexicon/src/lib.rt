@@ -10,9 +10,12 @@ mod laws;
 mod lexicon;
 mod merger;
 mod renumbering;
+mod table;
 
 pub use builder::LexiconBuilder;
-pub use laws::{have_a_lexicon, have_one_lexicon, is_shortest, is_told_by_members};
+pub use laws::{
+    have_a_lexicon, have_one_lexicon, is_shortest, is_told_by_members, renumber_in_turn,
+};
 pub use lexicon::Lexicon;
 pub use merger::LexiconMerger;
 pub use renumbering::Renumbering;

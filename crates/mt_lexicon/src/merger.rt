@@ -1,7 +1,7 @@
 //! Lexicons joined into one.
 
 ghost use Rattle.std.specs.Prelude.{◌≡◌, ◌+◌, ◌^◌, ◌<◌, ◌≤◌, [], ◌∷◌, ◌++◌, length, map, IfOk, OnOk, OnErr};
-ghost use Rattle.std.specs.List.{All, AllZip};
+ghost use Rattle.std.specs.List.{AllZip};
 ghost use Rattle.mt_store_spec.specs.Lexicons.{IsLexiconOf, Renumbers, AreFew, all_values};
 ghost use Rattle.mt_lexicon.specs.Joins.{Joins, JoinsMerged, Merges, ComesNext, renumbered};
 
@@ -117,9 +117,7 @@ fn merge_few(alloc: Global, parts: &[&Lexicon]) -> Result<Merged, NoMemory>
 
 /// Joins what two halves of the parts came to.
 fn join_merged(alloc: Global, first: Merged, second: Merged) -> Result<Merged, NoMemory>
-    requires few { AreFew (first.lexicon ++ second.lexicon) }
-    requires first { All (λ numbers. All (λ n. n < length first.lexicon) numbers) first.renumberings.items }
-    requires second { All (λ numbers. All (λ n. n < length second.lexicon) numbers) second.renumberings.items }
+    requires { AreFew (first.lexicon ++ second.lexicon) }
     ensures { IfOk result (λ merged. JoinsMerged first.lexicon second.lexicon merged.lexicon first.renumberings.items second.renumberings.items merged.renumberings.items) }
 {
     let joined = join(alloc, &first.lexicon, &second.lexicon)?;
@@ -136,7 +134,6 @@ fn join_merged(alloc: Global, first: Merged, second: Merged) -> Result<Merged, N
 
 /// Lets all go on by the next renumbering.
 fn renumber_all(all: &mut [Renumbering], next: &Renumbering)
-    requires { All (λ numbers. All (λ n. n < length next.now) numbers) all.old }
     ensures { all.new ≡ map (renumbered next.now) all.old }
 {
     for numbers in all.iter_mut() {
@@ -157,9 +154,9 @@ fn join(alloc: Global, first: &Lexicon, second: &Lexicon) -> Result<Joined, NoMe
     requires { AreFew (first.now ++ second.now) }
     ensures { IfOk result (λ joined. Joins first.now second.now joined.lexicon joined.first joined.second) }
 {
-    let mut values = Strings::new(alloc);
     let mut numbers = Vec::with_capacity(alloc, first.len() as usize)?;
     let mut others = Vec::with_capacity(alloc, second.len() as usize)?;
+    let mut values = Strings::with_capacity(alloc, numbers.capacity().max(others.capacity()), 0)?;
     let mut i = 0;
     let mut j = 0;
     while let Some(order) = next_order(first, i, second, j) {
@@ -184,6 +181,7 @@ fn join(alloc: Global, first: &Lexicon, second: &Lexicon) -> Result<Joined, NoMe
             }
         }
     }
+    values.shrink_to_fit();
     Ok(Joined {
         lexicon: Lexicon::from_strings(values),
         first: Renumbering::from_vec(numbers),

@@ -1,7 +1,6 @@
 //! From old numbers to new ones.
 
 ghost use Rattle.std.specs.Prelude.{◌≡◌, ◌<◌, length, slice_index, nat_eq};
-ghost use Rattle.std.specs.List.{All};
 ghost use Rattle.mt_lexicon.specs.Joins.{renumbered};
 
 use std::marker::Model;
@@ -50,13 +49,30 @@ impl Renumbering {
         self.numbers[old as usize]
     }
 
-    /// Renumbers the new numbers in their turn.
-    pub(crate) fn then(&mut self, next: &Renumbering)
-        requires { All (λ n. n < length next.now) self.old }
+    /// The new number of an old one, or 0 where there is no such old one.
+    fn get_or_first(&self, old: u32) -> u32
+        ensures { result ≡ slice_index self.now old }
+    {
+        if (old as usize) < self.numbers.len() {
+            self.get(old)
+        } else {
+            0
+        }
+    }
+
+    /// All new numbers: that of 0, of 1 and so on.
+    pub fn as_slice(&self) -> &[u32]
+        ensures { result.now ≡ self.now }
+    {
+        self.numbers.as_slice()
+    }
+
+    /// Renumbers the new numbers in their turn. One that the next renumbering lacks becomes 0.
+    pub fn then(&mut self, next: &Renumbering)
         ensures { self.new ≡ renumbered next.now self.old }
     {
         for number in self.numbers.iter_mut() {
-            *number = next.get(*number);
+            *number = next.get_or_first(*number);
         }
     }
 }

@@ -3,18 +3,31 @@
 ghost use Rattle.std.specs.Prelude.{◌≡◌, ◌<◌, length};
 
 use super::{Lexicon, LexiconBuilder, LexiconMerger, Renumbering};
-use mt_base::{List, NoMemory, Steps, Value};
+use mt_base::{List, NoMemory, Steps, Strings, Value};
 use std::alloc::Global;
 use std::marker::Brand;
 use std::sync::ledger::{Blank, Ledger};
 use std::test::Fail;
 
-/// The lexicon of two values.
-fn lexicon_of(alloc: Global, first: &str, second: &str) -> Result<Lexicon, NoMemory> {
+/// The lexicon of two values, and their numbers there.
+fn lexicon_of(
+    alloc: Global,
+    first: &str,
+    second: &str,
+) -> Result<(Lexicon, Renumbering), NoMemory> {
     let mut builder = LexiconBuilder::new(alloc)?;
     builder.add(first)?;
     builder.add(second)?;
-    Ok(builder.finish()?.0)
+    builder.finish()
+}
+
+/// Whether the value with this number is this one, and is found.
+fn has(alloc: Global, lexicon: &Lexicon, number: u32, value: &str) -> Result<bool, NoMemory> {
+    if number >= lexicon.len() || lexicon.value(number) != value {
+        return Ok(false);
+    }
+    let value = Value::new(alloc, value)?;
+    Ok(found(lexicon, &value) == Some(number))
 }
 
 fn found(lexicon: &Lexicon, value: &Value) -> Option<u32> {
@@ -30,27 +43,18 @@ fn found_from<L: Ledger>(lexicon: &Lexicon, value: &Value, blank: Blank) -> Opti
     lexicon.find(value.as_str(), &mut steps)
 }
 
-#[test]
-fn numbers_by_first_sight_and_by_order(rt: HostRuntime) -> Result<(), Fail> {
-    let mut builder = LexiconBuilder::new(rt.alloc())?;
-    assert_eq!(rt; builder.add("the")?, 0);
-    assert_eq!(rt; builder.add("cat")?, 1);
-    assert_eq!(rt; builder.add("the")?, 0);
-    let (lexicon, numbers) = builder.finish()?;
-    assert_eq!(rt; lexicon.len(), 2);
-    assert_eq!(rt; lexicon.value(0), "cat");
-    assert_eq!(rt; lexicon.value(1), "the");
-    assert_eq!(rt; numbers.len(), 2);
-    assert_eq!(rt; numbers.get(0), 1);
-    Ok(())
+/// Whether a renumbering has this new number for this old one.
+fn goes_to(numbers: &Renumbering, old: u32, new: u32) -> bool {
+    numbers.as_slice().get(old as usize) == Some(&new)
 }
 
 #[test]
-fn finds_by_bytes(rt: HostRuntime) -> Result<(), Fail> {
-    let lexicon = lexicon_of(rt.alloc(), "élan", "zoo")?;
-    assert_eq!(rt; found(&lexicon, &Value::new(rt.alloc(), "zoo")?), Some(0));
-    assert_eq!(rt; found(&lexicon, &Value::new(rt.alloc(), "élan")?), Some(1));
-    assert_eq!(rt; found(&lexicon, &Value::new(rt.alloc(), "é")?), None);
+fn numbers_by_bytes(rt: HostRuntime) -> Result<(), Fail> {
+    let (lexicon, numbers) = lexicon_of(rt.alloc(), "élan vital", "élan")?;
+    assert!(rt;
+        has(rt.alloc(), &lexicon, 0, "élan")? && has(rt.alloc(), &lexicon, 1, "élan vital")?
+    );
+    assert!(rt; goes_to(&numbers, 0, 1) && goes_to(&numbers, 1, 0));
     Ok(())
 }
 
@@ -71,14 +75,42 @@ fn merged(
 
 #[test]
 fn merges_in_order_of_adding(rt: HostRuntime) -> Result<(), Fail> {
-    let first = lexicon_of(rt.alloc(), "dog", "the")?;
-    let second = lexicon_of(rt.alloc(), "ant", "the")?;
+    let (first, _) = lexicon_of(rt.alloc(), "dog", "the")?;
+    let (second, _) = lexicon_of(rt.alloc(), "ant", "the")?;
     assert!(rt; first.len() < 3 && second.len() < 3);
     let (lexicon, numbers) = merged(rt.alloc(), &first, &second)?;
-    assert_eq!(rt; lexicon.len(), 3);
-    assert_eq!(rt; lexicon.value(0), "ant");
-    assert_eq!(rt; numbers.len(), 2);
-    assert_eq!(rt; numbers.get(1).len(), 2);
-    assert_eq!(rt; numbers.get(1).get(1), 2);
+    assert!(rt;
+        has(rt.alloc(), &lexicon, 0, "ant")?
+            && has(rt.alloc(), &lexicon, 1, "dog")?
+            && has(rt.alloc(), &lexicon, 2, "the")?
+    );
+    assert!(rt;
+        numbers.len() == 2 && goes_to(numbers.get(1), 0, 0) && goes_to(numbers.get(1), 1, 2)
+    );
+    Ok(())
+}
+
+/// The second of two values alone, and the numbers of both there.
+fn second_of(alloc: Global, lexicon: &Lexicon) -> Result<(Lexicon, Renumbering), NoMemory> {
+    let mut kept = vec![in alloc; false; lexicon.len() as usize]?;
+    if let Some(last) = kept.last_mut() {
+        *last = true;
+    }
+    lexicon.of_kept(alloc, kept.as_slice())
+}
+
+#[test]
+fn keeps_some_of_what_ascends(rt: HostRuntime) -> Result<(), Fail> {
+    let mut values = Strings::new(rt.alloc());
+    values.push("ant")?;
+    values.push("dog")?;
+    let Some(lexicon) = Lexicon::of_ascending(values) else {
+        return Ok(assert!(rt; false));
+    };
+    let (kept, mut numbers) = second_of(rt.alloc(), &lexicon)?;
+    assert!(rt; kept.len() == 1 && has(rt.alloc(), &kept, 0, "dog")? && goes_to(&numbers, 1, 0));
+    let (_, next) = lexicon_of(rt.alloc(), "the", "dog")?;
+    numbers.then(&next);
+    assert!(rt; goes_to(&numbers, 1, 1));
     Ok(())
 }

@@ -1,5 +1,5 @@
 -- What a lexicon is: the distinct values of an attribute in ascending order of their bytes, each numbered by its place, from 0.
-use Rattle.std.specs.Prelude.{ℕ, ◌≡◌, ◌^◌, ◌<◌, ◌≤◌, List, [], ◌∷◌, ◌++◌, length, slice_get, slice_index, if◌then◌else◌}
+use Rattle.std.specs.Prelude.{ℕ, ◌≡◌, ◌^◌, ◌<◌, ◌≤◌, Bool, true, List, [], ◌∷◌, ◌++◌, length, slice_get, slice_index, Some, if◌then◌else◌}
 use Rattle.std.specs.List.{All, AllPairs, Contains, list_any, flat_map}
 use Rattle.std.specs.Str.{bytes_eq}
 use Rattle.std.specs.Ordering.{nat_cmp}
@@ -24,6 +24,17 @@ pub record IsLexiconOf (values lexicon : List (List ℕ)) : Type 0 where
 pub record Renumbers (numbers : List ℕ) (old new : List (List ℕ)) : Type 0 where
   pub count : length numbers ≡ length old
   pub same : (k : ℕ) → k < length old → slice_get new (slice_index numbers k) ≡ slice_get old k
+
+-- the values that are kept, in their order, where each has a flag that tells whether it is
+abbrev pub kept_values : List Bool → List (List ℕ) → List (List ℕ)
+kept_values [] values = []
+kept_values (keep ∷ kept) [] = []
+kept_values (keep ∷ kept) (value ∷ values) = if keep then value ∷ kept_values kept values else kept_values kept values
+
+-- a renumbering of kept values has a number for each old number, and that of a value that is kept stands for the same value
+pub record RenumbersKept (kept : List Bool) (numbers : List ℕ) (old new : List (List ℕ)) : Type 0 where
+  pub count : length numbers ≡ length old
+  pub same : (k : ℕ) → k < length old → slice_get kept k ≡ Some true → slice_get new (slice_index numbers k) ≡ slice_get old k
 
 -- the values in the order in which they were first seen, after one more was seen
 abbrev pub seen_with : List (List ℕ) → List ℕ → List (List ℕ)

@@ -1,8 +1,8 @@
 -- Posting lists, and their codes.
-use Rattle.std.specs.Prelude.{ℕ, ◌≡◌, ◌+◌, ◌-◌, ◌<◌, ◌⊎◌, ◌↔◌, nat_lt, if◌then◌else◌, Bool, false, List, [], ◌∷◌, ◌++◌, length, replicate}
+use Rattle.std.specs.Prelude.{ℕ, ◌≡◌, ◌+◌, ◌-◌, ◌*◌, ◌<◌, ◌⊎◌, ◌↔◌, nat_lt, if◌then◌else◌, Bool, false, List, [], ◌∷◌, ◌++◌, length, replicate}
 use Rattle.std.specs.List.{All, Contains}
 use Rattle.std.specs.List.Sorted.{IsStrictlyIncreasing}
-use Rattle.mt_store_spec.specs.Codes.{delta, bits, IsTooLarge, IsCut}
+use Rattle.mt_store_spec.specs.Codes.{log2, delta, bits, IsTooLarge, IsCut}
 
 -- ascending, and none greater than 2^32 − 2
 pub record ArePositions (positions : List ℕ) : Type 0 where
@@ -13,6 +13,16 @@ pub record ArePositions (positions : List ℕ) : Type 0 where
 abbrev pub from_least : ℕ → List ℕ → List ℕ
 from_least least [] = []
 from_least least (p ∷ ps) = if nat_lt p least then from_least least ps else p ∷ ps
+
+-- the positions of a list from one on and before another, moved so that the first of this range becomes `place`
+abbrev pub moved : ℕ → ℕ → ℕ → List ℕ → List ℕ
+moved from to place [] = []
+moved from to place (p ∷ ps) =
+    if nat_lt p from then moved from to place ps else (if nat_lt p to then (p - from + place) ∷ moved from to place ps else moved from to place ps)
+
+-- how many positions of a list of this length are looked at in a search: as many as 2·len + 1 has binary digits, and 128
+abbrev pub most_looks : ℕ → ℕ
+most_looks len = log2 (2 * len + 1) + 1 + 128
 
 -- the least position that may follow these, where `least` may be the first
 abbrev pub next_least : ℕ → List ℕ → ℕ

@@ -2,7 +2,7 @@ use Rattle.std.proofs.Common.{◌/◌, length, map, arith}
 use Rattle.std.proofs.lemmas.Result.{IfOk-weaker}
 use Rattle.mt_lexicon.specs.declared.merger.Merged.{Merged}
 use Rattle.mt_lexicon.specs.Joins.{JoinsMerged, Merges}
-use Rattle.mt_lexicon.proofs.Merged.{all_within, halves_merged, in_halves, front_few, back_few, lexicons_few}
+use Rattle.mt_lexicon.proofs.Merged.{halves_merged, in_halves, front_few, back_few, lexicons_few}
 use Rattle.mt_lexicon.proofs.merger.+merge.Goals as goal
 
 pub merge-requires : goal.merge-requires
@@ -19,17 +19,11 @@ merge-requires-2 t c = (
       (in_halves (λ part. part.now) (length c.args.parts.now / 2) c.args.parts.now c.split_at.result.0.now c.split_at.result.1.now c.split_at.ensures.front c.split_at.ensures.back) c.requires,
 )
 
-pub join_merged-requires-clause-few : goal.join_merged-requires-clause-few
-join_merged-requires-clause-few t c =
+pub join_merged-requires : goal.join_merged-requires
+join_merged-requires t c =
     lexicons_few (map (λ part. part.now) c.args.parts.now) (map (λ part. part.now) c.split_at.result.0.now) (map (λ part. part.now) c.split_at.result.1.now) c.in_ok-front.front.lexicon c.in_ok-back.back.lexicon
     (in_halves (λ part. part.now) (length c.args.parts.now / 2) c.args.parts.now c.split_at.result.0.now c.split_at.result.1.now c.split_at.ensures.front c.split_at.ensures.back) c.requires
     c.in_ok-front.ensures.lexicon c.in_ok-back.ensures.lexicon
-
-pub join_merged-requires-clause-first : goal.join_merged-requires-clause-first
-join_merged-requires-clause-first t c = all_within (map (λ part. part.now) c.split_at.result.0.now) c.in_ok-front.front.lexicon c.in_ok-front.front.renumberings.items c.in_ok-front.ensures.each
-
-pub join_merged-requires-clause-second : goal.join_merged-requires-clause-second
-join_merged-requires-clause-second t c = all_within (map (λ part. part.now) c.split_at.result.1.now) c.in_ok-back.back.lexicon c.in_ok-back.back.renumberings.items c.in_ok-back.ensures.each
 
 pub returns : goal.returns
 returns t c =

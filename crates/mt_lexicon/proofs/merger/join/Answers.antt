@@ -1,4 +1,4 @@
-use Rattle.std.proofs.Common.{◌++◌, Some, subst, arith}
+use Rattle.std.proofs.Common.{◌∙◌, ◌++◌, Some, subst, arith}
 use Rattle.std.specs.declared.cmp.Ordering.{Ordering}
 use Rattle.std.specs.declared.cmp.Ordering.TheVariants.{Less, Equal, Greater}
 use Rattle.mt_lexicon.specs.Joins.{ComesNext}
@@ -14,7 +14,7 @@ overflow_cast-number c =
 
 pub from_strings-requires-clause-few : goal.from_strings-requires-clause-few
 from_strings-requires-clause-few c =
-    few_some (c.args.first.now ++ c.args.second.now) c.loop-order.values c.requires c.loop-order.invariant.ascending c.loop-order.invariant.only
+    rw c.shrink_to_fit.ensures (few_some (c.args.first.now ++ c.args.second.now) c.loop-order.values c.requires c.loop-order.invariant.ascending c.loop-order.invariant.only)
 
 pub loop-order-preserved-in-Less : goal.loop-order-preserved-in-Less
 loop-order-preserved-in-Less c =
@@ -45,4 +45,4 @@ returns c =
     all_joined c.args.first.now c.loop-order.i c.args.second.now c.loop-order.j c.loop-order.values c.from_strings.result c.loop-order.numbers.items c.loop-order.others.items c.from_vec.result c.from_vec-2.result c.loop-order.invariant
     (ended c.args.first.now c.loop-order.i c.args.second.now c.loop-order.j c.next_order.result c.next_order.ensures c.in_default.not-Some).0
     (ended c.args.first.now c.loop-order.i c.args.second.now c.loop-order.j c.next_order.result c.next_order.ensures c.in_default.not-Some).1
-    c.from_strings.ensures c.from_vec.ensures c.from_vec-2.ensures
+    (c.from_strings.ensures ∙ c.shrink_to_fit.ensures) c.from_vec.ensures c.from_vec-2.ensures

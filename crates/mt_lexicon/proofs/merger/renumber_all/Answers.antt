@@ -1,12 +1,7 @@
 use Rattle.std.proofs.Common.{arith}
 use Rattle.mt_lexicon.specs.Joins.{renumbered}
-use Rattle.mt_lexicon.proofs.Renumbered.{here, one_changed_more}
+use Rattle.mt_lexicon.proofs.Renumbered.{one_changed_more}
 use Rattle.mt_lexicon.proofs.merger.renumber_all.Goals as goal
-
-pub then-requires : goal.then-requires
-then-requires c =
-    rw (here c.loop-numbers.all c.args.all.now c.loop-numbers.numbers-index c.numbers-item.result c.loop-numbers.invariant.count c.loop-numbers.invariant.left (omega arith))
-    (c.requires c.loop-numbers.numbers-index c.numbers-item.result c.loop-numbers-test.true)
 
 pub loop-numbers-preserved : goal.loop-numbers-preserved
 loop-numbers-preserved c =
