@@ -5,11 +5,11 @@ use Rattle.std.proofs.lemmas.List.Elements.{All-nil, All-cons, All-head, All-tai
 use Rattle.std.proofs.lemmas.List.Kept.{AllPairs-from_increasing}
 use Rattle.std.proofs.lemmas.Bool.{cases_order}
 use Rattle.mt_store_spec.specs.Positions.{ArePositions}
+use Rattle.mt_postings.specs.Following.{Follow}
 
 -- ascending from a least one on
 abbrev pub From : ℕ → List ℕ → Type 0
-From least [] = least ≤ 4294967295
-From least (p ∷ ps) = (least ≤ p) × (p < 4294967295) × From (p + 1) ps
+From least ps = Follow least ps
 
 later : (p : ℕ) (ps : List ℕ) (k : ℕ) → get_or (p ∷ ps) (k + 1) 0 ≡ get_or ps k 0
 later p ps k = ap (λ x. get_or (p ∷ ps) x 0) (add-one k)

@@ -22,11 +22,11 @@ use Rattle.mt_postings.proofs.Ascending.{From, from_start, positions_from}
 
 -- ---- one position more
 
-next_push : (least p : ℕ) (ps : List ℕ) → next_least least (ps ++ p ∷ []) ≡ p + 1
+pub next_push : (least p : ℕ) (ps : List ℕ) → next_least least (ps ++ p ∷ []) ≡ p + 1
 next_push least p [] = refl
 next_push least p (q ∷ ps) = next_push (q + 1) p ps
 
-codes_push : (least p : ℕ) (ps : List ℕ) → codes least (ps ++ p ∷ []) ≡ codes least ps ++ delta (p + 1 - next_least least ps)
+pub codes_push : (least p : ℕ) (ps : List ℕ) → codes least (ps ++ p ∷ []) ≡ codes least ps ++ delta (p + 1 - next_least least ps)
 codes_push least p [] = append-nil (delta (p + 1 - least))
 codes_push least p (q ∷ ps) =
     ap (λ x. delta (q + 1 - least) ++ x) (codes_push (q + 1) p ps) ∙ sym (append_assoc (delta (q + 1 - least)) (codes (q + 1) ps) (delta (p + 1 - next_least (q + 1) ps)))
@@ -316,7 +316,7 @@ delta_short n p =
     let b = log2_short (log2 n + 1) (omega arith) in
     omega arith
 
-codes_short : (least : ℕ) (ps : List ℕ) → From least ps → length (codes least ps) + 4 * least ≤ 17179869180
+pub codes_short : (least : ℕ) (ps : List ℕ) → From least ps → length (codes least ps) + 4 * least ≤ 17179869180
 codes_short least [] f = omega arith
 codes_short least (p ∷ ps) f =
     let l = f.0 in

@@ -1,6 +1,7 @@
 -- The merge of two ascending lists has the numbers of both, and is ascending.
 use Rattle.std.proofs.Common.{ℕ, zero, suc, ◌≡◌, ◌+◌, ◌-◌, ◌<◌, ◌≤◌, ◌⊎◌, ◌↔◌, List, [], ◌∷◌, ◌++◌, length, drop, get_or, map, refl, sym, ap, ◌∙◌, subst, inl, inr, arith, append_assoc}
-use Rattle.std.proofs.Common.{Bool, true, false, min, leb}
+use Rattle.std.proofs.Common.{Bool, true, false, min, leb, Result, Ok, Err}
+use Rattle.std.specs.Result.{IfOk}
 use mir.Val.{bool_byte}
 use Rattle.std.specs.List.{Contains}
 use Rattle.std.proofs.lemmas.Bool.{cases_lt, cases_order, leb-true, leb-false}
@@ -96,6 +97,11 @@ merge_members l r x =
       λ c. elim (either m l r x (omega arith) ((has_is (merge m l r) x).1 c)) [ inl h ↦ inl ((has_is l x).0 h) | inr h ↦ inr ((has_is r x).0 h) ],
       λ c. (has_is (merge m l r) x).0 (elim c [ inl h ↦ of_left m l r x (omega arith) ((has_is l x).1 h) | inr h ↦ of_right m l r x (omega arith) ((has_is r x).1 h) ]),
     )
+
+-- and of what was kept of it
+pub union_members : {E : Type 0} (r : Result (List ℕ) E) (left right kept : List ℕ) → kept ≡ merge (length left + length right) left right → IfOk r (λ p. p ≡ kept) → IfOk r (λ all. (p : ℕ) → Contains all p ↔ (Contains left p ⊎ Contains right p))
+union_members (Ok all) left right kept e h = λ p. subst (λ x. Contains x p ↔ (Contains left p ⊎ Contains right p)) (sym (h ∙ e)) (merge_members left right p)
+union_members (Err x) left right kept e h = tt
 
 merge_from : (most least : ℕ) (l r : List ℕ) → length l + length r ≤ most → From least l → From least r → From least (merge most l r)
 merge_from most least [] r e f g = g

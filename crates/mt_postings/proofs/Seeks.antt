@@ -32,7 +32,7 @@ last_look n s bound h k =
     let grows : 2 ^ n * 1 ≤ 2 ^ n * s = mul-le-mul_left (2 ^ n) (omega arith) in
     rw two (omega arith)
 
-power_le : (i n : ℕ) → 1 ≤ n → 2 ^ i ≤ n → i ≤ log2 n
+pub power_le : (i n : ℕ) → 1 ≤ n → 2 ^ i ≤ n → i ≤ log2 n
 power_le i n p h =
     let b = log2_bounds n p in
     elim (cases_lt i (log2 n + 1)) [

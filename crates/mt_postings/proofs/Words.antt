@@ -1,8 +1,8 @@
 -- Words of 64 bits as the digits that they hold.
-use Rattle.std.proofs.Common.{ℕ, zero, suc, ◌≡◌, ◌+◌, ◌-◌, ◌*◌, ◌/◌, ◌%◌, ◌^◌, ◌<◌, ◌≤◌, Bool, false, List, [], ◌∷◌, ◌++◌, length, replicate, take, drop, refl, sym, ap, ◌∙◌, subst, arith, append_assoc}
+use Rattle.std.proofs.Common.{ℕ, zero, suc, ◌≡◌, ◌+◌, ◌-◌, ◌*◌, ◌/◌, ◌%◌, ◌^◌, ◌<◌, ◌≤◌, Bool, false, List, [], ◌∷◌, ◌++◌, length, replicate, take, drop, get_or, refl, sym, ap, ◌∙◌, subst, arith, append_assoc}
 use Rattle.std.specs.Int.{byte_at, bytes_high_first}
 use Rattle.std.proofs.lemmas.Nat.{shl_whole, shr_below, pow_pos, pow-add, mod_below, mul-add-lt}
-use Rattle.std.proofs.lemmas.List.{length-append, take-replicate}
+use Rattle.std.proofs.lemmas.List.{length-append, take-replicate, take-append-le, take_at}
 use Rattle.std.proofs.Math.Seq.{drop-append-add, take-append-add}
 use Rattle.std.proofs.Math.Nat.{pow-suc, mod-eq_of_lt}
 use Rattle.mt_store_spec.specs.Codes.{digits, bits}
@@ -102,3 +102,25 @@ put_last held word n part w low high =
     let t : take (8 * n) (digits held word ++ replicate free false) ≡ digits held word ++ take (8 * n - held) (replicate free false) = ap (λ x. take x (digits held word ++ replicate free false)) l ∙ (take-append-add (digits held word) (replicate free false) (8 * n - held)) in
     let r : take (8 * n - held) (replicate free false) ≡ replicate (8 * n - held) false = take-replicate (8 * n - held) free false (omega arith) in
     (whole, sym (take-bits n (bytes_high_first 8 (word * 2 ^ free))) ∙ ap (take (8 * n)) b ∙ t ∙ ap (λ x. digits held word ++ x) r)
+
+-- the first bits of bytes, as the digits of the first
+pub first_digits : (count byte : ℕ) (rest bytes : List ℕ) → count < 8 → bytes ≡ byte ∷ rest → digits count (byte / 2 ^ (8 - count)) ≡ take count (bits bytes)
+first_digits count byte rest bytes few e =
+    let sum : count + (8 - count) ≡ 8 = omega arith in
+    let d : digits 8 byte ≡ digits count (byte / 2 ^ (8 - count)) ++ digits (8 - count) byte = ap (λ k. digits k byte) (sym sum) ∙ digits-add count (8 - count) byte in
+    let l = length-digits 8 byte in
+    sym (ap (λ x. take count (bits x)) e ∙ take-append-le count (digits 8 byte) (bits rest) (omega arith) ∙ ap (take count) d ∙ take_at (digits count (byte / 2 ^ (8 - count))) (digits (8 - count) byte) count (length-digits count (byte / 2 ^ (8 - count))))
+
+pub first_fits : (count byte : ℕ) → count < 8 → byte < 256 → byte / 2 ^ (8 - count) < 2 ^ count
+first_fits count byte few small =
+    let sum : count + (8 - count) ≡ 8 = omega arith in
+    shr_below byte count (8 - count) (subst (λ k. byte < 2 ^ k) (sym sum) small)
+
+pub first_none : (count : ℕ) (bytes : List ℕ) → count ≤ 8 * length bytes → length bytes ≡ 0 → (digits count 0 ≡ take count (bits bytes)) × (0 < 2 ^ count)
+first_none count bytes l e =
+    let z : count ≡ 0 = omega arith in
+    let p : 0 < 2 ^ count = pow_pos count in
+    (ap (λ k. digits k 0) z ∙ digits-none 0 ∙ ap (λ k. take k (bits bytes)) (sym z), p)
+
+pub first_small : (byte : ℕ) (rest bytes : List ℕ) → bytes ≡ byte ∷ rest → get_or bytes 0 0 < 256 → byte < 256
+first_small byte rest bytes e l = subst (λ x. get_or x 0 0 < 256) e l

@@ -1,102 +1,78 @@
 //! A place in a posting list.
 
-ghost use Rattle.std.specs.Prelude.{◌≡◌, ℕ, ◌+◌, ◌-◌, ◌*◌, ◌^◌, ◌<◌, ◌≤◌, [], ◌∷◌, length, slice_index, is_some, if◌then◌else◌, MatchOption};
-ghost use Rattle.mt_store_spec.specs.Codes.{log2};
-ghost use Rattle.mt_store_spec.specs.Positions.{ArePositions, from_least};
+ghost use Rattle.std.specs.Prelude.{◌≡◌, ◌+◌, ◌≤◌, [], ◌∷◌, length, is_some, if◌then◌else◌, MatchOption};
+ghost use Rattle.mt_store_spec.specs.Positions.{ArePositions, from_least, most_looks};
 
+use super::numbers::Numbers;
+use super::places::Places;
 use mt_base::Steps;
 use std::marker::Model;
 use std::sync::ledger::Ledger;
 
+/// The positions that are left: numbers, or their codes.
+#[derive(Drop)]
+pub(crate) enum Left<'a> {
+    Numbers(Numbers<'a>),
+    Codes(Places<'a>),
+}
+
 /// The positions of a posting list that are left.
 #[derive(Drop)]
 pub struct Cursor<'a> {
-    left: &'a [u32],
+    left: Left<'a>,
 }
 
 impl<'a> Model for Cursor<'a> {
     ghost use Rattle.std.specs.Prelude.{ℕ, List};
-    ghost use Rattle.mt_store_spec.specs.Positions.{ArePositions};
 
     ghost Value = { List ℕ };
 
-    ghost view = { λ c. c.left.now };
+    ghost use Rattle.mt_postings.specs.Forms.{positions_left};
 
-    ghost invariant = { λ c. ArePositions c.left.now };
-}
-
-/// How many positions at the front are surely below `least`, as powers of two show: it looks at the places 0, 2, 6, 14 and so on.
-fn reach<L: Ledger>(positions: &[u32], least: u32, steps: &mut Steps<L>) -> usize
-    requires { ArePositions positions.now }
-    ensures within { result ≤ length positions.now }
-    ensures below { (k : ℕ) → k < result → slice_index positions.now k < least }
-    ensures stop { 2 * result < length positions.now → least ≤ slice_index positions.now (2 * result) }
-    ensures power { (n : ℕ) × (2 ^ n ≡ result + 1) × (steps.new ≤ steps.old + n + 1) }
-    ensures least_looks { steps.old ≤ steps.new }
-    ensures looked { 0 < length positions.now → steps.old < steps.new }
-{
-    let mut low = 0;
-    while 2 * low < positions.len() {
-        steps.tick();
-        if positions[2 * low] >= least {
-            break;
-        }
-        low = 2 * low + 1;
-    }
-    low
-}
-
-/// How many positions are below `least`, where those before `low` are, and those from `high` on are not.
-fn search<L: Ledger>(
-    positions: &[u32],
-    least: u32,
-    low: usize,
-    high: usize,
-    steps: &mut Steps<L>,
-) -> usize
-    requires valid { ArePositions positions.now }
-    requires order { low ≤ high }
-    requires within { high ≤ length positions.now }
-    requires below { (k : ℕ) → k < low → slice_index positions.now k < least }
-    requires stop { high < length positions.now → least ≤ slice_index positions.now high }
-    ensures within { result ≤ length positions.now }
-    ensures below { (k : ℕ) → k < result → slice_index positions.now k < least }
-    ensures stop { result < length positions.now → least ≤ slice_index positions.now result }
-    ensures least_looks { steps.old ≤ steps.new }
-    ensures most_looks { 2 ^ (steps.new - steps.old) ≤ 2 * (high - low) + 1 }
-{
-    let mut from = low;
-    let mut to = high;
-    while from < to {
-        let middle = from + (to - from) / 2;
-        steps.tick();
-        if positions[middle] < least {
-            from = middle + 1;
-        } else {
-            to = middle;
-        }
-    }
-    from
+    ghost view = { λ c. positions_left c.left };
 }
 
 impl<'a> Cursor<'a> {
     /// A cursor before the first of these positions.
-    pub(crate) fn new(left: &'a [u32]) -> Self
-        requires { ArePositions left.now }
+    pub(crate) fn numbers(left: &'a [u32]) -> Self
+        requires valid { ArePositions left.now }
+        requires short { length left.now ≤ 128 }
         ensures { result ≡ left.now }
     {
-        Cursor { left }
+        Cursor {
+            left: Left::Numbers(Numbers::new(left)),
+        }
+    }
+
+    /// A cursor before the first of these coded positions.
+    pub(crate) fn codes(places: Places<'a>) -> Self
+        ensures { result ≡ places.entry }
+    {
+        Cursor {
+            left: Left::Codes(places),
+        }
+    }
+
+    /// The next position, which is then passed.
+    #[inline]
+    fn advance(&mut self) -> Option<u32>
+        ensures { MatchOption result ((self.old ≡ []) × (self.new ≡ [])) (λ p. self.old ≡ p ∷ self.new) }
+    {
+        match &mut self.left {
+            Left::Numbers(numbers) => numbers.next(),
+            Left::Codes(places) => places.next(),
+        }
     }
 
     /// The next position, which is then passed. A position given is a step. It takes no memory.
+    #[inline]
     pub fn next<L: Ledger>(&mut self, steps: &mut Steps<L>) -> Option<u32>
         ensures given { MatchOption result ((self.old ≡ []) × (self.new ≡ [])) (λ p. self.old ≡ p ∷ self.new) }
         ensures ticks { steps.new ≡ steps.old + (if is_some result then 1 else 0) }
     {
-        let (first, rest) = self.left.split_first()?;
-        self.left = rest;
+        let position = self.advance()?;
         steps.tick();
-        Some(*first)
+        Some(position)
     }
 
     /// The first position that is at least `least`. It and those before it are then passed, and all where there is none.
@@ -106,20 +82,11 @@ impl<'a> Cursor<'a> {
             ((from_least least self.old ≡ []) × (self.new ≡ []))
             (λ p. from_least least self.old ≡ p ∷ self.new) }
         ensures least_looks { steps.old + (if is_some result then 1 else 0) ≤ steps.new }
-        ensures most_looks { steps.new ≤ steps.old + 2 * log2 (length self.old - length self.new + 1) + 1 }
+        ensures most_looks { steps.new ≤ steps.old + most_looks (length self.old) }
     {
-        let low = reach(self.left, least, steps);
-        let high = (2 * low).min(self.left.len());
-        let at = search(self.left, least, low, high, steps);
-        match self.left[at..].split_first() {
-            Some((first, rest)) => {
-                self.left = rest;
-                Some(*first)
-            }
-            None => {
-                self.left = &[];
-                None
-            }
+        match &mut self.left {
+            Left::Numbers(numbers) => numbers.seek(least, steps),
+            Left::Codes(places) => places.seek(least, steps),
         }
     }
 }

@@ -95,6 +95,18 @@ impl<'a> BitReader<'a> {
         }
     }
 
+    /// Goes on to a later bit.
+    #[inline]
+    pub(crate) fn move_to(&mut self, bit: u64)
+        requires later { self.old.place ≤ bit }
+        requires within { bit ≤ self.old.place + length self.old.left }
+        ensures { self.new ≡ record { left = drop (bit - self.old.place) self.old.left; place = bit } }
+    {
+        self.at = bit;
+        self.word = 0;
+        self.held = 0;
+    }
+
     /// The next 57 bits, the first of them in the highest place.
     #[inline]
     fn next_word(&self) -> u64

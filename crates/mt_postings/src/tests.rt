@@ -3,7 +3,7 @@
 ghost use Rattle.std.specs.Prelude.{◌≡◌, ◌<◌};
 
 use super::{BitReader, BitWriter, CodeError, DecodeError, Postings, read_back};
-use mt_base::Steps;
+use mt_base::{List, Steps};
 use std::marker::Brand;
 use std::sync::ledger::{Blank, Ledger};
 use std::test::Fail;
@@ -34,8 +34,15 @@ fn lists(rt: HostRuntime) -> Result<(), Fail> {
     assert_eq!(rt; two.encode(alloc)?.as_slice(), [0xa0].as_slice());
     assert_eq!(rt; nine.encode(alloc)?.as_slice(), [0x22].as_slice());
     assert_eq!(rt; two.union(alloc, &nine)?.len(), 3);
+    assert_eq!(rt; Postings::union_of(alloc, &[&two, &nine, &two])?.len(), 3);
+    let mut bytes = List::new(alloc);
+    two.encode_to(&mut bytes)?;
+    nine.encode_to(&mut bytes)?;
+    assert_eq!(rt; bytes.as_slice(), [0xa0, 0x22].as_slice());
+    assert_eq!(rt; two.code_len(), 1);
     two.append_shifted(&nine, 5)?;
-    assert_eq!(rt; read_back(alloc, &two)?.len(), 3);
+    two.append_moved(&nine, 4, 10, 20)?;
+    assert_eq!(rt; read_back(alloc, &two)?.len(), 4);
     Ok(())
 }
 

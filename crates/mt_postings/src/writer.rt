@@ -1,6 +1,6 @@
 //! A writer of bits.
 
-ghost use Rattle.std.specs.Prelude.{◌≡◌, ℕ, ◌+◌, ◌*◌, ◌^◌, ◌<◌, ◌≤◌, Bool, false, List as Items, [], ◌++◌, replicate, vec_len, vec_capacity, OnOk, OnErr};
+ghost use Rattle.std.specs.Prelude.{◌≡◌, ℕ, ◌+◌, ◌*◌, ◌^◌, ◌<◌, ◌≤◌, Bool, false, List as Items, [], ◌++◌, length, take, replicate, vec_len, vec_capacity, IfOk, OnOk, OnErr};
 ghost use Rattle.std.specs.Int.{w64, to_be_bytes};
 ghost use Rattle.mt_store_spec.specs.Codes.{digits, delta, bits};
 
@@ -43,6 +43,30 @@ fn delta_word(n: u32) -> (u64, u32)
     (word, 2 * zeros + 1 + low)
 }
 
+/// How many bits the code of a number has.
+#[inline]
+pub(crate) fn delta_len(n: u32) -> u32
+    requires { 1 ≤ n }
+    ensures exact { result ≡ length (delta n) }
+    ensures most { result ≤ 42 }
+{
+    let low = n.ilog2();
+    2 * (low + 1).ilog2() + 1 + low
+}
+
+/// The first bits of bytes, fewer than eight, in the lowest places of a word.
+fn first_bits(bytes: &[u8], count: u32) -> u64
+    requires few { count < 8 }
+    requires within { count ≤ 8 * length bytes.now }
+    ensures bits { digits count result ≡ take count (bits bytes.now) }
+    ensures fits { result < 2 ^ count }
+{
+    match bytes.split_first() {
+        Some((byte, _rest)) => u64::from(*byte) >> (8 - count),
+        None => 0,
+    }
+}
+
 /// Adds a word at the end, with room for another after it.
 fn push_word(bytes: &mut Vec<u8>, word: u64) -> Result<(), NoMemory>
     ensures ok { OnOk result (bytes.new.items ≡ bytes.old.items ++ to_be_bytes w64 word) }
@@ -66,6 +90,19 @@ impl BitWriter {
             word: 0,
             held: 0,
         }
+    }
+
+    /// The first bits of bytes, fewer than eight.
+    pub(crate) fn after(alloc: Global, bytes: &[u8], count: u32) -> Result<Self, NoMemory>
+        requires few { count < 8 }
+        requires within { count ≤ 8 * length bytes.now }
+        ensures { IfOk result (λ writer. writer ≡ take count (bits bytes.now)) }
+    {
+        Ok(BitWriter {
+            bytes: Vec::with_capacity(alloc, 8)?,
+            word: first_bits(bytes, count),
+            held: count,
+        })
     }
 
     /// Writes the Elias delta code of a number. Without memory nothing is written.

@@ -1,0 +1,86 @@
+//! How the positions of a list are kept: a few in place, up to 128 as numbers, and more as their code.
+
+ghost use Rattle.std.specs.Prelude.{◌≡◌, ℕ, ◌+◌, ◌<◌, ◌≤◌, List as Items, ◌++◌, length, IfOk, OnOk, OnErr};
+ghost use Rattle.mt_store_spec.specs.Positions.{ArePositions};
+ghost use Rattle.mt_postings.specs.Forms.{positions_kept, IsFitting};
+
+use super::coded::Coded;
+use mt_base::NoMemory;
+use std::alloc::Global;
+use std::marker::Model;
+
+/// So many positions are kept in place.
+const FEW: usize = 4;
+
+/// So many are kept as numbers.
+const SHORT: usize = 128;
+
+/// Up to four positions, in no block of their own.
+#[derive(Debug, Drop)]
+pub(crate) struct Few {
+    positions: [u32; 4],
+    count: u8,
+}
+
+impl Model for Few {
+    ghost use Rattle.std.specs.Prelude.{ℕ, List, ◌≤◌, take};
+
+    ghost Value = { List ℕ };
+
+    ghost view = { λ f. take f.count f.positions };
+
+    ghost invariant = { λ f. f.count ≤ 4 };
+}
+
+impl Few {
+    /// The list of these positions.
+    fn from_slice(positions: &[u32]) -> Self
+        requires { length positions.now ≤ 4 }
+        ensures { result ≡ positions.now }
+    {
+        let mut few = [0; 4];
+        few[..positions.len()].copy_from_slice(positions);
+        Few {
+            positions: few,
+            count: positions.len() as u8,
+        }
+    }
+
+    /// All of them.
+    pub(crate) fn as_slice(&self) -> &[u32]
+        ensures all { result.now ≡ self.now }
+        ensures few { length self.now ≤ 4 }
+    {
+        &self.positions[..self.count as usize]
+    }
+}
+
+/// The positions of a list, in the form that goes by how many they are.
+#[derive(Debug, Drop)]
+pub(crate) enum Kept {
+    Few(Few),
+    Numbers(Vec<u32>),
+    Code(Box<Coded>),
+}
+
+/// The positions of a list as they are lent.
+#[derive(Clone, Copy, Drop)]
+pub(crate) enum Lent<'a> {
+    Numbers(&'a [u32]),
+    Code(&'a Coded),
+}
+
+/// Keeps positions in the form that goes by how many they are, at its exact size.
+pub(crate) fn keep(alloc: Global, positions: &[u32]) -> Result<Kept, NoMemory>
+    requires { ArePositions positions.now }
+    ensures all { IfOk result (λ kept. positions_kept kept ≡ positions.now) }
+    ensures fitting { IfOk result (λ kept. IsFitting kept) }
+{
+    if positions.len() <= FEW {
+        return Ok(Kept::Few(Few::from_slice(positions)));
+    }
+    if positions.len() <= SHORT {
+        return Ok(Kept::Numbers(Vec::from_slice(alloc, positions)?));
+    }
+    Ok(Kept::Code(Box::new(alloc, Coded::from_slice(alloc, positions)?)?))
+}
