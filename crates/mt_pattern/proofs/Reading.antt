@@ -4,6 +4,7 @@ use Rattle.std.specs.Prelude.{IfSome}
 use Rattle.regex.specs.Patterns.{find_str, default_config, SameCaptures, Reads, Refuses}
 use Rattle.regex.specs.Strings.{regex_source, regex_config, regex_pattern, IsReadFromSource}
 use Rattle.regex.specs.declared.string.regex.Regex.{Regex}
+use Rattle.regex.specs.Failures.{IsPattern as IsBuilt}
 use Rattle.regex.proofs.ForCallers.{is_match_alike}
 use Rattle.regex_hir.specs.Re.{Re}
 use Rattle.regex_syntax.specs.Brackets.{Nested}
@@ -47,3 +48,8 @@ refused text kind r no_memory some = elim r [
   | inl e ↦ absurd (no_memory e)
   | inr more ↦ elim more [ inl none ↦ absurd (none_read _ none some) | inr deep ↦ too_deep _ some deep.1 ]
 ]
+
+-- what is built but for its size is a pattern
+pub built : (text : List ℕ) → IsBuilt default_config text → IsPattern text
+unfolding Reads
+built text (hir, names, reads) = is_read (reading text) _ names reads

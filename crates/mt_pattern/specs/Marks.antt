@@ -1,5 +1,5 @@
 -- A bit for each number, in words of 64 bits. The lowest bit of the first word is that of 0.
-use Rattle.std.specs.Prelude.{ℕ, zero, suc, ◌≡◌, ◌+◌, ◌*◌, ◌/◌, ◌%◌, ◌≤◌, ◌==◌, Bool, false, List, [], ◌∷◌, length, slice_index}
+use Rattle.std.specs.Prelude.{ℕ, zero, suc, ◌≡◌, ◌≢◌, ◌+◌, ◌*◌, ◌/◌, ◌%◌, ◌≤◌, ◌==◌, Bool, false, true, List, [], ◌∷◌, length, slice_index, slice_get, get_or, Some, count_by, ◌<◌}
 use Rattle.std.specs.Int.{bit_at}
 
 -- whether the bit of a number is set
@@ -15,3 +15,24 @@ marks_from words id (suc count) = is_set words id ∷ marks_from words (id + 1) 
 pub record AreMarks (words : List ℕ) (count : ℕ) : Type 0 where
   pub room : count ≤ 64 * length words
   pub clear : (id : ℕ) → count ≤ id → is_set words id ≡ false
+
+-- the least number in a set that is this one or a later one
+pub record IsNext (marks : List Bool) (from found : ℕ) : Type 0 where
+  pub later : from ≤ found
+  pub marked : slice_get marks found ≡ Some true
+  pub least : (id : ℕ) → from ≤ id → slice_get marks id ≡ Some true → found ≤ id
+
+-- neither this number nor a later one is in a set
+abbrev pub NoneFrom : List Bool → ℕ → Type 0
+NoneFrom marks from = (id : ℕ) → from ≤ id → slice_get marks id ≢ Some true
+
+-- how many numbers are in a set
+abbrev pub size_of : List Bool → ℕ
+size_of marks = count_by (λ mark. mark) marks
+
+-- the first word from a place on that is not 0
+pub record IsNextWord (words : List ℕ) (from at : ℕ) : Type 0 where
+  pub later : from ≤ at
+  pub within : at < length words
+  pub some : 0 < get_or words at 0
+  pub none : (place : ℕ) → from ≤ place → place < at → get_or words place 0 ≡ 0

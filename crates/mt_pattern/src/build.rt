@@ -1,15 +1,17 @@
 //! Patterns that are to match whole values, and the values that they accept.
 
+ghost use Rattle.std.specs.List.{AllZip};
 ghost use Rattle.std.specs.Prelude.{◌≡◌, string_bytes, IfOk, OnOk, IsErrOf};
 ghost use Rattle.mt_pattern_spec.specs.Patterns.{IsPattern, MayBeNoPattern, MarksAccepted, wrapped};
 ghost use Rattle.mt_pattern.specs.Shops.{RefusedOne};
 
 use super::id_set::IdSet;
-use super::plain::{is_plain, mark_itself};
+use super::plain::{is_plain, mark_itself_in_each};
 use super::shop::{PatternShop, ShopError};
-use mt_base::NoMemory;
+use mt_base::{List, NoMemory, Value};
 use mt_lexicon::Lexicon;
 use std::alloc::Global;
+use std::marker::Model;
 
 /// Why there is no set of numbers.
 #[derive(Clone, Copy, Debug, PartialEq, Eq, Drop)]
@@ -48,22 +50,72 @@ impl From<ShopError> for IdsError {
     }
 }
 
-/// The pattern that matches the whole of the values that a text accepts. The text is built by itself first, so that only what is a
-/// pattern by itself is put between the marks for a value's start and end.
-pub fn whole_pattern<P: PatternShop>(
-    alloc: Global,
-    text: &str,
-    shop: &mut P,
-) -> Result<P::Pattern, IdsError>
-    ensures text { IfOk result (λ pattern. P.text_of pattern ≡ wrapped text.now) }
-    ensures patterns { OnOk result (IsPattern text.now × IsPattern (wrapped text.now)) }
-    ensures syntax { IsErrOf result IdsError.Syntax → MayBeNoPattern text.now }
-    ensures refused { IsErrOf result IdsError.Refused → RefusedOne (P.refused shop.old) text.now (P.refused shop.new) }
-    ensures kept { ¬ IsErrOf result IdsError.Refused → P.refused shop.new ≡ P.refused shop.old }
-{
-    shop.build(alloc, text)?;
-    let whole = in_marks(alloc, text)?;
-    Ok(shop.build(alloc, whole.as_str())?)
+/// A pattern that is to match whole values: a text that is a pattern, also between marks for a value's start and end, and what a shop
+/// built of it there. It is built once and then asked of as many lexicons as there are. Contracts see it as the text.
+#[derive(Drop)]
+pub struct WholePattern<P: PatternShop> {
+    text: Value,
+    whole: P::Pattern,
+}
+
+impl<P: PatternShop> Model for WholePattern<P> {
+    ghost use Rattle.std.specs.Prelude.{◌≡◌, ℕ, List};
+    ghost use Rattle.mt_pattern_spec.specs.Patterns.{IsPattern, wrapped};
+
+    ghost Value = { List ℕ };
+
+    ghost view = { λ w. w.text };
+
+    ghost invariant = { λ w. IsPattern w.text × IsPattern (wrapped w.text) × (P.text_of w.whole ≡ wrapped w.text) };
+}
+
+impl<P: PatternShop> WholePattern<P> {
+    /// The pattern of whole values that a text is. The text is built by itself first, so that only what is a pattern by itself is put
+    /// between the marks for a value's start and end.
+    pub fn build(alloc: Global, text: &str, shop: &mut P) -> Result<Self, IdsError>
+        ensures text { IfOk result (λ whole. whole ≡ text.now) }
+        ensures patterns { OnOk result (IsPattern text.now × IsPattern (wrapped text.now)) }
+        ensures syntax { IsErrOf result IdsError.Syntax → MayBeNoPattern text.now }
+        ensures refused { IsErrOf result IdsError.Refused → RefusedOne (P.refused shop.old) text.now (P.refused shop.new) }
+        ensures kept { ¬ IsErrOf result IdsError.Refused → P.refused shop.new ≡ P.refused shop.old }
+    {
+        shop.build(alloc, text)?;
+        let marked = in_marks(alloc, text)?;
+        let whole = shop.build(alloc, marked.as_str())?;
+        let text = Value::new(alloc, text)?;
+        Ok(WholePattern { text, whole })
+    }
+
+    /// The numbers of the values that the pattern accepts.
+    pub fn ids(&mut self, alloc: Global, lexicon: &Lexicon, shop: &mut P) -> Result<IdSet, NoMemory>
+        ensures marks { IfOk result (λ marks. MarksAccepted self.old lexicon.now marks) }
+        ensures text { self.new ≡ self.old }
+        ensures kept { P.refused shop.new ≡ P.refused shop.old }
+    {
+        let sets = self.ids_of_each(alloc, &[lexicon], shop)?;
+        match sets.into_vec().pop() {
+            Some(marks) => Ok(marks),
+            None => unreachable!(),
+        }
+    }
+
+    /// The numbers of the values of each lexicon that the pattern accepts. A text of plain characters accepts itself alone, and is looked
+    /// up; for another one the shop makes what it searches with once for all lexicons.
+    pub fn ids_of_each(
+        &mut self,
+        alloc: Global,
+        lexicons: &[&Lexicon],
+        shop: &mut P,
+    ) -> Result<List<IdSet>, NoMemory>
+        ensures marks { IfOk result (λ sets. AllZip (λ lexicon marks. MarksAccepted self.old lexicon.now marks) lexicons.now sets) }
+        ensures text { self.new ≡ self.old }
+        ensures kept { P.refused shop.new ≡ P.refused shop.old }
+    {
+        if is_plain(self.text.as_str()) {
+            return mark_itself_in_each(alloc, lexicons, &self.text);
+        }
+        shop.accepts_each(alloc, &mut self.whole, lexicons)
+    }
 }
 
 /// The text between the marks for a value's start and end.
@@ -73,7 +125,7 @@ fn in_marks(alloc: Global, text: &str) -> Result<String, NoMemory>
     Ok(format!(in alloc; r"\A(?:{text})\z")?)
 }
 
-/// The numbers of the values that a text accepts as a pattern. A text of plain characters accepts itself alone, and is looked up.
+/// The numbers of the values that a text accepts as a pattern: it is built and asked of one lexicon.
 pub fn ids<P: PatternShop>(
     alloc: Global,
     lexicon: &Lexicon,
@@ -86,9 +138,6 @@ pub fn ids<P: PatternShop>(
     ensures refused { IsErrOf result IdsError.Refused → RefusedOne (P.refused shop.old) text.now (P.refused shop.new) }
     ensures kept { ¬ IsErrOf result IdsError.Refused → P.refused shop.new ≡ P.refused shop.old }
 {
-    let mut pattern = whole_pattern(alloc, text, shop)?;
-    if is_plain(text) {
-        return Ok(mark_itself(alloc, lexicon, text)?);
-    }
-    Ok(shop.accepts_each(alloc, &mut pattern, lexicon)?)
+    let mut pattern = WholePattern::build(alloc, text, shop)?;
+    Ok(pattern.ids(alloc, lexicon, shop)?)
 }

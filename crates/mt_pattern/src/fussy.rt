@@ -61,6 +61,7 @@ impl PatternShop for FussyShop {
         ensures text { IfOk result (λ pattern. pattern ≡ text.now) }
         ensures pattern { IfOk result (λ _. IsPattern text.now) }
         ensures syntax { IsErrOf result ShopError.Syntax → IsPattern text.now → IsTooDeep text.now }
+        ensures only { IsErrOf result ShopError.Refused → Contains self.old.texts text.now ⊎ IsPattern text.now }
         ensures refused { IsErrOf result ShopError.Refused → self.new.refused ≡ self.old.refused ++ text.now ∷ [] }
         ensures kept { ¬ IsErrOf result ShopError.Refused → self.new.refused ≡ self.old.refused }
     {
@@ -83,8 +84,8 @@ impl PatternShop for FussyShop {
         &mut self,
         alloc: Global,
         pattern: &mut Built,
-        lexicon: &Lexicon,
-    ) -> Result<IdSet, NoMemory> {
-        self.shop.accepts_each(alloc, pattern, lexicon)
+        lexicons: &[&Lexicon],
+    ) -> Result<List<IdSet>, NoMemory> {
+        self.shop.accepts_each(alloc, pattern, lexicons)
     }
 }

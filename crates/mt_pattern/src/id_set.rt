@@ -1,6 +1,7 @@
 //! Sets of the numbers of values.
 
-ghost use Rattle.std.specs.Prelude.{◌≡◌, ◌↔◌, ◌<◌, ◌^◌, false, true, length, replicate, set, slice_get, Some, IsTrue, IfOk};
+ghost use Rattle.std.specs.Prelude.{◌≡◌, ◌↔◌, ◌<◌, ◌^◌, false, true, length, replicate, set, slice_get, get_or, Some, IsTrue, IfOk, IfSome, IfNone, ℕ, ◌≤◌, nat_eq};
+ghost use Rattle.mt_pattern.specs.Marks.{marks_from, AreMarks, IsNext, IsNextWord, NoneFrom, size_of};
 ghost use Rattle.std.specs.Bool.{OnTrue, OnFalse};
 
 use mt_base::NoMemory;
@@ -12,17 +13,18 @@ use std::marker::Model;
 pub struct IdSet {
     words: Vec<u64>,
     count: u32,
+    size: u32,
 }
 
 impl Model for IdSet {
-    ghost use Rattle.std.specs.Prelude.{Bool, List};
-    ghost use Rattle.mt_pattern.specs.Marks.{marks_from, AreMarks};
+    ghost use Rattle.std.specs.Prelude.{◌≡◌, Bool, List};
+    ghost use Rattle.mt_pattern.specs.Marks.{marks_from, AreMarks, size_of};
 
     ghost Value = { List Bool };
 
     ghost view = { λ s. marks_from s.words.items 0 s.count };
 
-    ghost invariant = { λ s. AreMarks s.words.items s.count };
+    ghost invariant = { λ s. AreMarks s.words.items s.count × (s.size ≡ size_of (marks_from s.words.items 0 s.count)) };
 }
 
 impl IdSet {
@@ -31,7 +33,11 @@ impl IdSet {
         ensures { IfOk result (λ made. made ≡ replicate count false) }
     {
         let words = vec![in alloc; 0u64; count.div_ceil(64) as usize]?;
-        Ok(IdSet { words, count })
+        Ok(IdSet {
+            words,
+            count,
+            size: 0,
+        })
     }
 
     /// Puts a number into the set. It takes no memory.
@@ -39,6 +45,10 @@ impl IdSet {
         requires { id < length self.old }
         ensures { self.new ≡ set self.old id true }
     {
+        if self.has(id) {
+            return;
+        }
+        self.size += 1;
         self.words[(id / 64) as usize] |= 1u64 << (id % 64);
     }
 
@@ -69,4 +79,59 @@ impl IdSet {
     {
         self.count
     }
+
+    /// How many numbers are in the set.
+    pub fn len(&self) -> u32
+        ensures { result ≡ size_of self.now }
+    {
+        self.size
+    }
+
+    /// Whether none is in the set.
+    pub fn is_empty(&self) -> bool
+        ensures { result ≡ nat_eq (size_of self.now) 0 }
+    {
+        self.size == 0
+    }
+
+    /// The least number in the set that is this one or a later one. It takes no memory, and looks at 64 numbers at once.
+    pub fn next_from(&self, id: u32) -> Option<u32>
+        ensures found { IfSome result (λ found. IsNext self.now id found) }
+        ensures none { IfNone result (NoneFrom self.now id) }
+    {
+        next_bit(&self.words, self.count, id)
+    }
+}
+
+/// The least number from this one on whose bit is set.
+fn next_bit(words: &[u64], count: u32, id: u32) -> Option<u32>
+    requires { AreMarks words.now count }
+    ensures found { IfSome result (λ found. IsNext (marks_from words.now 0 count) id found) }
+    ensures none { IfNone result (NoneFrom (marks_from words.now 0 count) id) }
+{
+    let place = (id / 64) as usize;
+    let rest = match words.get(place) {
+        Some(word) => word >> (id % 64),
+        None => return None,
+    };
+    if rest != 0 {
+        return Some(id + rest.trailing_zeros());
+    }
+    match next_word(words, place + 1) {
+        Some(at) => Some(64 * (at as u32) + words[at].trailing_zeros()),
+        None => None,
+    }
+}
+
+/// The place of the first word from this place on that is not 0.
+fn next_word(words: &[u64], place: usize) -> Option<usize>
+    ensures found { IfSome result (λ at. IsNextWord words.now place at) }
+    ensures none { IfNone result ((at : ℕ) → place ≤ at → get_or words.now at 0 ≡ 0) }
+{
+    for at in place..words.len() {
+        if words[at] != 0 {
+            return Some(at);
+        }
+    }
+    None
 }

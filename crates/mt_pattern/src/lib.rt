@@ -14,7 +14,7 @@ mod shop;
 #[cfg(test)]
 mod tests;
 
-pub use build::{IdsError, ids, whole_pattern};
+pub use build::{IdsError, WholePattern, ids};
 pub use fussy::FussyShop;
 pub use id_set::IdSet;
 pub use regexes::{Built, RegexShop};

@@ -1,12 +1,12 @@
 //! Patterns that accept one value: themselves.
 
-ghost use Rattle.std.specs.Prelude.{◌≡◌, ◌<◌, IsTrue, IfOk, IfSome, IfNone, slice_get, Some, Contains};
-ghost use Rattle.std.specs.List.{AllPass};
+ghost use Rattle.std.specs.Prelude.{◌≡◌, ◌<◌, IsTrue, IfOk, IfSome, IfNone, slice_get, Some, Contains, IsUtf8};
+ghost use Rattle.std.specs.List.{AllPass, AllZip};
 ghost use Rattle.mt_pattern_spec.specs.Patterns.{IsPattern, MarksAccepted, wrapped};
 ghost use Rattle.mt_pattern.specs.Plain.{is_plain_byte};
 
 use super::id_set::IdSet;
-use mt_base::{NoMemory, Steps, Value};
+use mt_base::{List, NoMemory, Steps, Value};
 use mt_lexicon::Lexicon;
 use std::alloc::Global;
 use std::marker::Brand;
@@ -22,16 +22,35 @@ pub fn is_plain(text: &str) -> bool
         .all(|byte| byte.is_ascii_alphanumeric() || *byte >= 128)
 }
 
+/// Marks in each lexicon the value that such a text is, where the lexicon has it.
+pub fn mark_itself_in_each(
+    alloc: Global,
+    lexicons: &[&Lexicon],
+    text: &Value,
+) -> Result<List<IdSet>, NoMemory>
+    requires utf8 { IsUtf8 text.now }
+    requires plain { AllPass is_plain_byte text.now }
+    requires alone { IsPattern text.now }
+    requires whole { IsPattern (wrapped text.now) }
+    ensures { IfOk result (λ sets. AllZip (λ lexicon marks. MarksAccepted text.now lexicon.now marks) lexicons.now sets) }
+{
+    let mut sets = List::with_capacity(alloc, lexicons.len())?;
+    for lexicon in lexicons {
+        sets.push(mark_itself(alloc, lexicon, text)?)?;
+    }
+    Ok(sets)
+}
+
 /// Marks the value that such a text is, where the lexicon has it.
-pub fn mark_itself(alloc: Global, lexicon: &Lexicon, text: &str) -> Result<IdSet, NoMemory>
+fn mark_itself(alloc: Global, lexicon: &Lexicon, text: &Value) -> Result<IdSet, NoMemory>
+    requires utf8 { IsUtf8 text.now }
     requires plain { AllPass is_plain_byte text.now }
     requires alone { IsPattern text.now }
     requires whole { IsPattern (wrapped text.now) }
     ensures { IfOk result (λ marks. MarksAccepted text.now lexicon.now marks) }
 {
-    let value = Value::new(alloc, text)?;
     let mut marks = IdSet::new(alloc, lexicon.len())?;
-    let Some(id) = place_of(lexicon, &value) else {
+    let Some(id) = place_of(lexicon, text) else {
         return Ok(marks);
     };
     marks.insert(id);

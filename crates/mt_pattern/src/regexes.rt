@@ -3,7 +3,7 @@
 ghost use Rattle.std.specs.Prelude.{◌≡◌, ◌⊎◌, ℕ, [], ◌∷◌, ◌++◌, map, IfOk, IsErrOf};
 ghost use Rattle.mt_pattern_spec.specs.Patterns.{IsPattern, IsTooDeep, finds};
 ghost use Rattle.regex.specs.Strings.{matcher_pattern};
-ghost use Rattle.mt_pattern.specs.Searches.{Tells};
+ghost use Rattle.mt_pattern.specs.Searches.{Tells, TellsEach};
 
 use super::id_set::IdSet;
 use super::shop::{PatternShop, ShopError};
@@ -32,17 +32,29 @@ impl Model for Built {
 }
 
 impl Built {
-    /// Marks the values in which the pattern has a match, by one matcher.
-    fn mark_each(&self, alloc: Global, lexicon: &Lexicon) -> Result<IdSet, NoMemory>
-        ensures { IfOk result (λ marks. marks ≡ map (finds self.now) lexicon.now) }
+    /// Marks the values of each lexicon in which the pattern has a match, by one matcher for all.
+    fn mark_each(&self, alloc: Global, lexicons: &[&Lexicon]) -> Result<List<IdSet>, NoMemory>
+        ensures { IfOk result (λ sets. sets ≡ map (λ lexicon. map (finds self.now) lexicon.now) lexicons.now) }
     {
         let mut matcher = self.regex.matcher(alloc)?;
-        let mut marks = IdSet::new(alloc, lexicon.len())?;
-        for id in 0..lexicon.len() {
-            marks.insert_if(id, has_match(&mut matcher, lexicon.value(id)));
+        let mut sets = List::with_capacity(alloc, lexicons.len())?;
+        for lexicon in lexicons {
+            sets.push(mark_values(alloc, &mut matcher, lexicon)?)?;
         }
-        Ok(marks)
+        Ok(sets)
     }
+}
+
+/// Marks the values in which there is a match.
+fn mark_values(alloc: Global, matcher: &mut Matcher, lexicon: &Lexicon) -> Result<IdSet, NoMemory>
+    ensures found { IfOk result (λ marks. TellsEach (matcher_pattern matcher.old) lexicon.now marks) }
+    ensures same { matcher_pattern matcher.new ≡ matcher_pattern matcher.old }
+{
+    let mut marks = IdSet::new(alloc, lexicon.len())?;
+    for id in 0..lexicon.len() {
+        marks.insert_if(id, has_match(matcher, lexicon.value(id)));
+    }
+    Ok(marks)
 }
 
 /// Whether there is a match somewhere in a value.
@@ -101,12 +113,20 @@ impl PatternShop for RegexShop {
 
     ghost text_of = { λ p. p };
 
-    fn build(&mut self, alloc: Global, text: &str) -> Result<Built, ShopError> {
+    fn build(&mut self, alloc: Global, text: &str) -> Result<Built, ShopError>
+        ensures text { IfOk result (λ pattern. pattern ≡ text.now) }
+        ensures pattern { IfOk result (λ _. IsPattern text.now) }
+        ensures syntax { IsErrOf result ShopError.Syntax → IsPattern text.now → IsTooDeep text.now }
+        ensures too_big { IsErrOf result ShopError.Refused → IsPattern text.now }
+        ensures refused { IsErrOf result ShopError.Refused → self.new ≡ self.old ++ text.now ∷ [] }
+        ensures kept { ¬ IsErrOf result ShopError.Refused → self.new ≡ self.old }
+    {
         match Regex::new(alloc, text) {
             Ok(regex) => Ok(Built { regex }),
             Err(Error::Syntax(_)) => Err(ShopError::Syntax),
             Err(Error::OutOfMemory) => Err(ShopError::NoMemory),
-            Err(_) => Err(self.refuse(alloc, text)),
+            Err(Error::CompiledTooBig) => Err(self.refuse(alloc, text)),
+            Err(Error::Internal) => unreachable!(),
         }
     }
 
@@ -124,8 +144,8 @@ impl PatternShop for RegexShop {
         &mut self,
         alloc: Global,
         pattern: &mut Built,
-        lexicon: &Lexicon,
-    ) -> Result<IdSet, NoMemory> {
-        pattern.mark_each(alloc, lexicon)
+        lexicons: &[&Lexicon],
+    ) -> Result<List<IdSet>, NoMemory> {
+        pattern.mark_each(alloc, lexicons)
     }
 }

@@ -1,10 +1,10 @@
 //! The trait of pattern shops.
 
-ghost use Rattle.std.specs.Prelude.{◌≡◌, ℕ, List, [], ◌∷◌, ◌++◌, map, IfOk, IsErrOf};
+ghost use Rattle.std.specs.Prelude.{◌≡◌, ℕ, List as Items, [], ◌∷◌, ◌++◌, map, IfOk, IsErrOf};
 ghost use Rattle.mt_pattern_spec.specs.Patterns.{IsPattern, IsTooDeep, finds};
 
 use super::id_set::IdSet;
-use mt_base::NoMemory;
+use mt_base::{List, NoMemory};
 use mt_lexicon::Lexicon;
 use std::alloc::Global;
 
@@ -25,10 +25,10 @@ pub trait PatternShop {
     type Pattern: Drop;
 
     /// The texts that were refused, first to last.
-    ghost refused: { Self → List (List ℕ) };
+    ghost refused: { Self → Items (Items ℕ) };
 
     /// The text that a pattern was built from.
-    ghost text_of: { Self.Pattern → List ℕ };
+    ghost text_of: { Self.Pattern → Items ℕ };
 
     /// Builds the pattern of a text.
     fn build(&mut self, alloc: Global, text: &str) -> Result<Self::Pattern, ShopError>
@@ -49,15 +49,15 @@ pub trait PatternShop {
         ensures text { text_of pattern.new ≡ text_of pattern.old }
         ensures kept { refused self.new ≡ refused self.old };
 
-    /// Marks the values of a lexicon in which a pattern has a match. It answers for each value as `accepts` does, and makes what it
-    /// needs for that once.
+    /// Marks the values of each lexicon in which a pattern has a match. It answers for each value as `accepts` does, and makes what it
+    /// needs for that once for all of them.
     fn accepts_each(
         &mut self,
         alloc: Global,
         pattern: &mut Self::Pattern,
-        lexicon: &Lexicon,
-    ) -> Result<IdSet, NoMemory>
-        ensures found { IfOk result (λ marks. marks ≡ map (finds (text_of pattern.old)) lexicon.now) }
+        lexicons: &[&Lexicon],
+    ) -> Result<List<IdSet>, NoMemory>
+        ensures found { IfOk result (λ sets. sets ≡ map (λ lexicon. map (finds (text_of pattern.old)) lexicon.now) lexicons.now) }
         ensures text { text_of pattern.new ≡ text_of pattern.old }
         ensures kept { refused self.new ≡ refused self.old };
 }

@@ -1,6 +1,6 @@
-//! Which values patterns accept, and what shops refuse.
+//! Which values patterns accept, and what shops refuse. The cases of a test are answered one after another, and compared as one text.
 
-use super::{FussyShop, IdsError, PatternShop, RegexShop, ids};
+use super::{FussyShop, IdsError, PatternShop, RegexShop, WholePattern, ids};
 use mt_base::{List, NoMemory, Value};
 use mt_lexicon::{Lexicon, LexiconBuilder};
 use std::alloc::Global;
@@ -40,33 +40,47 @@ fn marks<P: PatternShop>(
     Ok(String::from_str(alloc, cause)?)
 }
 
+/// What `marks` answers for each of these texts, with a blank between.
+fn answers<P: PatternShop>(
+    alloc: Global,
+    lexicon: &Lexicon,
+    texts: &[&str],
+    shop: &mut P,
+) -> Result<String, NoMemory> {
+    let mut all = String::new(alloc);
+    for text in texts {
+        all.push_str(marks(alloc, lexicon, text, shop)?.as_str())?;
+        all.push(' ')?;
+    }
+    Ok(all)
+}
+
 #[test]
 fn patterns_take_whole_values(rt: HostRuntime) -> Result<(), Fail> {
     let alloc = rt.alloc();
     let lexicon = five_values(alloc)?;
     let mut shop = RegexShop::new(alloc);
-    for (text, want) in [
-        ("cat", "001000"),
-        ("ca", "000000"),
-        ("at", "000000"),
-        ("ca.*", "001100"),
-        ("c|the|x", "000010"),
-        ("the$|^cat", "001010"),
-        ("(?i)cat", "011000"),
-        ("", "100000"),
-        (".*", "111110"),
-        ("[a-z]+", "001110"),
-        ("(", "syntax"),
-        ("cat)|(?:the", "syntax"),
-        ("(?x)cat #", "syntax"),
-        (r"(?:\w{100}){1000}", "refused"),
-    ] {
-        assert_eq!(rt;
-            marks(alloc, &lexicon, text, &mut shop)?.as_str(),
-            want,
-            "{text}"
-        );
-    }
+    let texts = [
+        "cat",
+        "ca",
+        "at",
+        "ca.*",
+        "c|the|x",
+        "the$|^cat",
+        "(?i)cat",
+        "",
+        ".*",
+        "[a-z]+",
+    ];
+    assert_eq!(rt;
+        answers(alloc, &lexicon, &texts, &mut shop)?.as_str(),
+        "001000 000000 000000 001100 000010 001010 011000 100000 111110 001110 "
+    );
+    let texts = ["(", "cat)|(?:the", "(?x)cat #", r"(?:\w{100}){1000}"];
+    assert_eq!(rt;
+        answers(alloc, &lexicon, &texts, &mut shop)?.as_str(),
+        "syntax syntax syntax refused "
+    );
     Ok(())
 }
 
@@ -75,28 +89,84 @@ fn a_fussy_shop_refuses_chosen_texts(rt: HostRuntime) -> Result<(), Fail> {
     let alloc = rt.alloc();
     let nothing = LexiconBuilder::new(alloc)?.finish()?.0;
     let lexicon = five_values(alloc)?;
-    let mut texts = List::new(alloc);
-    texts.push(Value::new(alloc, "c.*")?)?;
-    texts.push(Value::new(alloc, r"\A(?:the)\z")?)?;
-    let mut shop = FussyShop::new(alloc, texts);
-    for (text, want, want_of_nothing) in [
-        ("c.*", "refused", "refused"),
-        ("the", "refused", "refused"),
-        ("cat", "001000", "0"),
-        ("c.*", "refused", "refused"),
-        (")", "syntax", "syntax"),
-    ] {
-        assert_eq!(rt;
-            marks(alloc, &lexicon, text, &mut shop)?.as_str(),
-            want,
-            "{text}"
-        );
-        assert_eq!(rt;
-            marks(alloc, &nothing, text, &mut shop)?.as_str(),
-            want_of_nothing,
-            "{text}"
-        );
+    let mut chosen = List::new(alloc);
+    chosen.push(Value::new(alloc, "c.*")?)?;
+    chosen.push(Value::new(alloc, r"\A(?:the)\z")?)?;
+    let mut shop = FussyShop::new(alloc, chosen);
+    let texts = ["c.*", "the", "cat", "c.*", ")"];
+    assert_eq!(rt;
+        answers(alloc, &lexicon, &texts, &mut shop)?.as_str(),
+        "refused refused 001000 refused syntax "
+    );
+    assert_eq!(rt;
+        answers(alloc, &nothing, &texts, &mut shop)?.as_str(),
+        "refused refused 0 refused syntax "
+    );
+    Ok(())
+}
+
+/// Whether so many groups within one another are built, and what `marks` answers for them.
+fn nested(alloc: Global, lexicon: &Lexicon, depth: u32) -> Result<String, NoMemory> {
+    let mut text = String::new(alloc);
+    for _ in 0..depth {
+        text.push('(')?;
     }
+    for _ in 0..depth {
+        text.push(')')?;
+    }
+    let mut shop = RegexShop::new(alloc);
+    let built = shop.build(alloc, text.as_str()).is_ok();
+    let wrapped = marks(alloc, lexicon, text.as_str(), &mut shop)?;
+    Ok(format!(in alloc; "{built} {wrapped}")?)
+}
+
+#[test]
+fn nesting_is_limited_alone_and_wrapped(rt: HostRuntime) -> Result<(), Fail> {
+    let alloc = rt.alloc();
+    let lexicon = five_values(alloc)?;
+    assert_eq!(rt; nested(alloc, &lexicon, 248)?.as_str(), "true 100000");
+    assert_eq!(rt; nested(alloc, &lexicon, 250)?.as_str(), "true syntax");
+    assert_eq!(rt; nested(alloc, &lexicon, 251)?.as_str(), "false syntax");
+    Ok(())
+}
+
+/// The first number that a pattern accepts in each lexicon, by one pattern for all.
+fn first_of_each(
+    alloc: Global,
+    lexicons: &[&Lexicon],
+    text: &str,
+    shop: &mut RegexShop,
+) -> Result<String, NoMemory> {
+    let mut firsts = String::new(alloc);
+    let Ok(mut pattern) = WholePattern::build(alloc, text, shop) else {
+        return Ok(firsts);
+    };
+    let sets = pattern.ids_of_each(alloc, lexicons, shop)?;
+    for set in sets.as_slice() {
+        firsts.push(match set.next_from(0) {
+            Some(2) => '2',
+            Some(_) => '?',
+            None => '-',
+        })?;
+    }
+    Ok(firsts)
+}
+
+#[test]
+fn one_pattern_over_several_lexicons(rt: HostRuntime) -> Result<(), Fail> {
+    let alloc = rt.alloc();
+    let nothing = LexiconBuilder::new(alloc)?.finish()?.0;
+    let lexicon = five_values(alloc)?;
+    let lexicons = [&nothing, &lexicon, &lexicon];
+    let mut shop = RegexShop::new(alloc);
+    assert_eq!(rt;
+        first_of_each(alloc, &lexicons, "cat", &mut shop)?.as_str(),
+        "-22"
+    );
+    assert_eq!(rt;
+        first_of_each(alloc, &lexicons, "[ct].*", &mut shop)?.as_str(),
+        "-22"
+    );
     Ok(())
 }
 

@@ -1,5 +1,4 @@
-use Rattle.std.proofs.Common.{◌∙◌, ℕ, List, Some, ap, subst, arith, length, set, true, false}
-use Rattle.std.specs.List.{Contains}
+use Rattle.std.proofs.Common.{◌∙◌, ap, arith, length, set, true, false}
 use Rattle.std.proofs.lemmas.List.{length-replicate}
 use Rattle.std.proofs.lemmas.Option.{slice_get_within}
 use Rattle.mt_pattern.proofs.PlainMarks.{marks_none, marks_one}
@@ -7,15 +6,13 @@ use Rattle.mt_pattern.proofs.plain.mark_itself.Goals as goal
 
 pub returns-in_default : goal.returns-in_default
 returns-in_default c =
-    marks_none c.args.text.now c.utf8.text c.requires.plain c.args.lexicon.now c.len.result c.in_ok-marks.marks c.in_ok-marks.ensures c.len.ensures.number
-    (subst (λ (v : List ℕ). ¬ Contains c.args.lexicon.now v) c.in_ok-value.ensures c.in_default.ensures.none)
+    marks_none c.args.text.now c.requires.utf8 c.requires.plain c.args.lexicon.now c.len.result c.in_ok-marks.marks c.in_ok-marks.ensures c.len.ensures.number c.in_default.ensures.none
 
 pub insert-requires : goal.insert-requires
 insert-requires c =
-    omega (arith, ap length c.in_ok-marks.ensures, length-replicate c.len.result false, slice_get_within c.args.lexicon.now c.in-Some.id c.in_ok-value.value c.in-Some.ensures.found)
+    omega (arith, ap length c.in_ok-marks.ensures, length-replicate c.len.result false, slice_get_within c.args.lexicon.now c.in-Some.id c.args.text.now c.in-Some.ensures.found)
 
 pub returns : goal.returns
 returns c =
-    marks_one c.args.text.now c.utf8.text c.requires.plain c.args.lexicon.now c.len.result c.in-Some.id c.insert.new.self
-    (c.insert.ensures ∙ ap (λ marks. set marks c.in-Some.id true) c.in_ok-marks.ensures) c.len.ensures.number c.len.ensures.ascending
-    (c.in-Some.ensures.found ∙ ap (λ (v : List ℕ). Some v) c.in_ok-value.ensures) c.requires.alone c.requires.whole
+    marks_one c.args.text.now c.requires.utf8 c.requires.plain c.args.lexicon.now c.len.result c.in-Some.id c.insert.new.self
+    (c.insert.ensures ∙ ap (λ marks. set marks c.in-Some.id true) c.in_ok-marks.ensures) c.len.ensures.number c.len.ensures.ascending c.in-Some.ensures.found c.requires.alone c.requires.whole
