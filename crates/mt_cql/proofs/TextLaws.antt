@@ -9,9 +9,9 @@ use Rattle.mt_query_spec.specs.Verdicts.{Syntax, NoQuery, unlexed_cause}
 use Rattle.mt_cql.specs.declared.text_reader.Next.{Next}
 use Rattle.mt_cql.specs.declared.text_reader.Next.TheVariants.{End, Token, Bad}
 use Rattle.mt_cql.specs.TextSeen.{IsBehind}
-use Rattle.mt_cql.specs.Exprs.{start, step, finish}
-use Rattle.mt_cql.specs.Parts.{part_ways}
-use Rattle.mt_cql.specs.Reading.{Answer, PartState, or_refused, end_of, read_from, read}
+use Rattle.mt_query_laws.specs.Exprs.{start, step, finish}
+use Rattle.mt_query_laws.specs.Parts.{part_ways}
+use Rattle.mt_query_laws.specs.Reading.{Answer, PartState, or_refused, end_of, read_from, read}
 use Rattle.mt_cql.proofs.Cutting.{moved_on}
 
 -- ## The front of a text

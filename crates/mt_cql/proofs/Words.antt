@@ -1,15 +1,13 @@
 -- Numbers and words in a text.
-use Rattle.std.proofs.Common.{ℕ, zero, suc, ◌+◌, ◌*◌, ◌-◌, ◌^◌, ◌≡◌, ◌<◌, ◌≤◌, ◌⊎◌, inl, inr, Bool, true, List, [], ◌∷◌, refl, sym, ◌∙◌, ap, arith, length, drop, take, get_or, add-one}
+use Rattle.std.proofs.Common.{ℕ, zero, suc, ◌+◌, ◌^◌, ◌≡◌, ◌<◌, ◌≤◌, ◌⊎◌, inl, inr, Bool, true, List, [], ◌∷◌, refl, sym, ◌∙◌, ap, arith, length, drop, take, get_or, add-one}
 use Rattle.std.specs.List.{AllPass, prefix_len}
 use Rattle.std.specs.Char.{is_ascii_digit}
 use Rattle.std.proofs.lemmas.Bool.Decides.{nat_tests}
 use Rattle.std.proofs.lemmas.List.{get_or-take, length-drop, length-take}
 use Rattle.std.proofs.lemmas.List.Sums.{prefix_len_passes, prefix_len-le-length}
 use Rattle.std.proofs.lemmas.Grind.{get_or_after_one}
-use Rattle.std.proofs.Math.Nat.{pow-le-pow_right, pow-succ'}
-use Rattle.std.proofs.Math.Seq.{drop-cons}
+use Rattle.std.proofs.Math.Nat.{pow-le-pow_right}
 use Rattle.mt_text_spec.specs.Words.{is_identifier_start, is_identifier_byte}
-use Rattle.mt_query_spec.specs.Tokens.{decimal_value}
 
 pub digit_range : (b : ℕ) → is_ascii_digit b ≡ true → (48 ≤ b) × (b ≤ 57)
 digit_range b h = (grind (arith, nat_tests), grind (arith, nat_tests))
@@ -64,13 +62,3 @@ taken_front (b ∷ text) n h = ap (λ m. take m (b ∷ text)) (add-one n)
 
 pub value_bound : (i v : ℕ) → i < 9 → v + 1 ≤ 10 ^ i → v < 10 ^ 8
 value_bound i v h b = let p : 10 ^ i ≤ 10 ^ 8 = pow-le-pow_right {n = 10} (omega arith) {i = i} {j = 8} (omega arith) in omega arith
-
-pub value_step : (i v d : ℕ) → d ≤ 9 → v + 1 ≤ 10 ^ i → (v * 10 + d) + 1 ≤ 10 ^ (i + 1)
-value_step i v d h b = let p : 10 ^ (i + 1) ≡ 10 * 10 ^ i = ap (λ n. 10 ^ n) (add-one i) ∙ pow-succ' 10 i in omega arith
-
-pub value_more : (digits : List ℕ) (i v total : ℕ) → i < length digits → decimal_value v (drop i digits) ≡ total
-    → decimal_value (v * 10 + (get_or digits i 0 - 48)) (drop (i + 1) digits) ≡ total
-value_more digits i v total h e =
-    ap (λ n. decimal_value n (drop (i + 1) digits)) (let k : v * 10 + (get_or digits i 0 - 48) ≡ 10 * v + (get_or digits i 0 - 48) = omega arith in k)
-    ∙ ap (λ n. decimal_value (10 * v + (get_or digits i 0 - 48)) (drop n digits)) (add-one i)
-    ∙ sym (ap (decimal_value v) (drop-cons digits i 0 h)) ∙ e

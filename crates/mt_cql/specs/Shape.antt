@@ -1,5 +1,5 @@
 -- What the parts of a query of the program stand for.
-use Rattle.std.specs.Prelude.{◌≡◌, map, Result, Ok, Err}
+use Rattle.std.specs.Prelude.{◌≡◌, ◌+◌, map, Result, Ok, Err}
 use Rattle.mt_text_spec.specs.Queries as q
 use Rattle.mt_cql.specs.declared.query.Test.{Test}
 use Rattle.mt_cql.specs.declared.query.Test.TheVariants.{Any, Pattern, Literal, Not', Both', Either'}
@@ -25,8 +25,9 @@ use Rattle.mt_query_spec.specs.Trees as tree
 use Rattle.mt_query_spec.specs.Meaning as meaning
 use Rattle.mt_query_spec.specs.Verdicts as v
 use Rattle.mt_cql.specs.declared.parts.TestPart.{TestPart}
+use Rattle.mt_cql.specs.declared.parts.Faults.{Faults}
 use Rattle.mt_cql.specs.declared.parts.Part.{Part}
-use Rattle.mt_cql.specs.Parts as p
+use Rattle.mt_query_laws.specs.Parts as p
 
 abbrev pub test_shape : Test → q.Test
 test_shape Any = q.Any
@@ -81,15 +82,25 @@ Said (Err error.NoMemory) said = Unit {0}
 abbrev pub test_part_seen : TestPart → p.TestPart
 test_part_seen part = record { test = test_shape part.test; unknown = part.unknown; nodes = part.nodes }
 
+-- what is at fault in two parts, one before the other
+abbrev pub joined : Faults → Faults → Faults
+joined left right = record {
+  label = meaning.least_of left.label right.label;
+  range = meaning.least_of left.range right.range;
+  unknown = meaning.first_of left.unknown right.unknown;
+  nodes = p.capped (left.nodes + right.nodes);
+  size = p.capped (left.size + right.size);
+}
+
 abbrev pub part_seen : Part → p.Part
 part_seen part = record {
   expr = shape part.expr;
   labels = part.labels;
-  label = part.label;
-  range = part.range;
-  unknown = part.unknown;
-  nodes = part.nodes;
-  size = part.size;
+  label = part.faults.label;
+  range = part.faults.range;
+  unknown = part.faults.unknown;
+  nodes = part.faults.nodes;
+  size = part.faults.size;
 }
 
 abbrev pub label_seen : Label → tree.Label
@@ -103,21 +114,21 @@ abbrev pub operand_seen : OperandPart → p.OperandPart
 operand_seen part = record {
   head = shape part.head;
   filters = filters_shape part.filters;
-  label = part.label;
-  range = part.range;
-  unknown = part.unknown;
-  nodes = part.nodes;
-  size = part.size;
+  label = part.faults.label;
+  range = part.faults.range;
+  unknown = part.faults.unknown;
+  nodes = part.faults.nodes;
+  size = part.faults.size;
 }
 
 abbrev pub filters_seen : FiltersPart → p.FiltersPart
 filters_seen part = record {
   filters = map filter_seen part.filters;
-  label = part.label;
-  range = part.range;
-  unknown = part.unknown;
-  nodes = part.nodes;
-  size = part.size;
+  label = part.faults.label;
+  range = part.faults.range;
+  unknown = part.faults.unknown;
+  nodes = part.faults.nodes;
+  size = part.faults.size;
 }
 
 abbrev pub conds_seen : CondsPart → p.CondsPart

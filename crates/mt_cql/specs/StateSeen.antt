@@ -1,5 +1,5 @@
 -- What the state of a query that is being read stands for.
-use Rattle.std.specs.Prelude.{ℕ, List, Option, None, Some, map, Result, Bool, not, nat_eq, ◌&&◌, is_none, length}
+use Rattle.std.specs.Prelude.{ℕ, List, Option, None, Some, map, Result, Bool, true, false, not, nat_eq, ◌&&◌, is_none, length}
 use Rattle.mt_query_spec.specs.Trees as tree
 use Rattle.mt_cql.specs.declared.parts.Part.{Part}
 use Rattle.mt_cql.specs.declared.parts.FiltersPart.{FiltersPart}
@@ -13,8 +13,6 @@ use Rattle.mt_cql.specs.declared.reader.Reader.{Reader}
 use Rattle.mt_cql.specs.declared.state.Group.{Group}
 use Rattle.mt_cql.specs.declared.state.Op.{Op}
 use Rattle.mt_cql.specs.declared.state.Head.{Head}
-use Rattle.mt_cql.specs.declared.state.Around.{Around}
-use Rattle.mt_cql.specs.declared.state.Place.{Place}
 use Rattle.mt_cql.specs.declared.state.Counting.{Counting}
 use Rattle.mt_cql.specs.declared.state.Counting.TheVariants as counting
 use Rattle.mt_cql.specs.declared.state.Side.{Side}
@@ -22,15 +20,15 @@ use Rattle.mt_cql.specs.declared.state.SideState.{SideState}
 use Rattle.mt_cql.specs.declared.state.SideState.TheVariants as side_state
 use Rattle.mt_cql.specs.declared.state.Condition.{Condition}
 use Rattle.mt_cql.specs.declared.state.Condition.TheVariants as condition
-use Rattle.mt_cql.specs.declared.state.Asked.{Asked}
 use Rattle.mt_cql.specs.declared.conds.Written.{Written}
 use Rattle.mt_cql.specs.declared.state.State.{State}
-use Rattle.mt_cql.specs.declared.state.State.TheVariants as state
-use Rattle.mt_cql.specs.Parts as p
-use Rattle.mt_cql.specs.Exprs as e
-use Rattle.mt_cql.specs.Reading.{PartState}
+use Rattle.mt_cql.specs.declared.state.Phase.{Phase}
+use Rattle.mt_cql.specs.declared.state.Phase.TheVariants as phase
+use Rattle.mt_query_laws.specs.Parts as p
+use Rattle.mt_query_laws.specs.Exprs as e
+use Rattle.mt_query_laws.specs.Reading.{PartState}
 use Rattle.mt_cql.specs.Shape.{part_seen, filters_seen, conds_seen, label_seen, cause_seen}
-use Rattle.mt_cql.specs.TestSeen.{test_state_seen}
+use Rattle.mt_cql.specs.TestSeen.{tests_seen}
 
 abbrev pub maybe_part_seen : Option Part → Option p.Part
 maybe_part_seen None = None
@@ -59,11 +57,22 @@ maybe_op_seen (Some op) = Some (whole_op_seen op)
 abbrev pub head_seen : Head → e.Head p.Parts p.FilterParts
 head_seen head = record { choice = part_seen head.choice; filters = maybe_filters_seen head.filters; op = whole_op_seen head.op }
 
-abbrev pub around_seen : Around → e.Around p.Parts p.FilterParts
-around_seen around = record { groups = map group_seen around.groups; heads = map head_seen around.heads }
+-- what stands round what was read last
+abbrev pub around_of : State → e.Around p.Parts p.FilterParts
+around_of state = record { groups = map group_seen state.groups; heads = map head_seen state.heads }
 
-abbrev pub place_seen : Place → e.Place p.Parts p.FilterParts
-place_seen place = record { before = group_seen place.before; around = around_seen place.around }
+-- where an item stands
+abbrev pub place_of : State → e.Place p.Parts p.FilterParts
+place_of state = record { before = group_seen state.before; around = around_of state }
+
+-- the filters behind a choice, where there are any
+abbrev pub filters_where : Bool → FiltersPart → Option p.FiltersPart
+filters_where true filters = Some (filters_seen filters)
+filters_where false filters = None
+
+-- the choice that was read, with the filters behind it
+abbrev pub asked_of : State → e.Asked p.Parts p.FilterParts
+asked_of state = record { choice = part_seen state.part; filters = filters_where state.has_filters state.filters }
 
 abbrev pub counting_seen : Counting → e.Counting
 counting_seen counting.Opened = e.Opened
@@ -92,44 +101,46 @@ maybe_condition_seen (Some cond) = Some (condition_seen cond)
 abbrev pub cond_tree_seen : Written → tree.CondTree
 cond_tree_seen written = e.cond_tree (side_seen written.left) written.equal (side_seen written.right)
 
-abbrev pub asked_seen : Asked → e.Asked p.Parts p.FilterParts
-asked_seen asked = record { choice = part_seen asked.choice; filters = maybe_filters_seen asked.filters }
+-- what an op filters, and the heads outside, where it may stand
+abbrev pub filtered_now : Bool → State → Option (e.Asked p.Parts p.FilterParts × List (e.Head p.Parts p.FilterParts))
+filtered_now true state = Some (asked_of state, map head_seen state.heads)
+filtered_now false state = None
 
-abbrev pub maybe_asked_seen : Option Asked → Option (e.Asked p.Parts p.FilterParts)
-maybe_asked_seen None = None
-maybe_asked_seen (Some asked) = Some (asked_seen asked)
-
--- what an op filters, and the heads outside
-abbrev pub maybe_filtered_seen : Option (Asked × List Head) → Option (e.Asked p.Parts p.FilterParts × List (e.Head p.Parts p.FilterParts))
-maybe_filtered_seen None = None
-maybe_filtered_seen (Some found) = Some (asked_seen found.0, map head_seen found.1)
+-- the head of the query with its filters, where it may end
+abbrev pub asked_now : Bool → State → Option (e.Asked p.Parts p.FilterParts)
+asked_now true state = Some (asked_of state)
+asked_now false state = None
 
 -- whether a `(` behind an op, with this before it and these outside, opens an operand with filters
 abbrev pub opens : Group → List Group → List Head → Bool
 opens group groups heads = nat_eq (length groups) 0 && not (nat_eq (length heads) 0) && is_none group.sequence && is_none group.branches
 
-abbrev pub state_seen : State → PartState
-state_seen (state.Wanted place) = e.Wanted (place_seen place)
-state_seen (state.LabelRead at number place) = e.LabelRead at number (place_seen place)
-state_seen (state.LabelDone at number place) = e.LabelDone at number (place_seen place)
-state_seen (state.TokenOpened label place) = e.TokenOpened (label_seen label) (place_seen place)
-state_seen (state.InToken label test place) = e.InToken (label_seen label) (test_state_seen test) (place_seen place)
-state_seen (state.TagOpened place) = e.TagOpened (place_seen place)
-state_seen (state.TagNamed tag place) = e.TagNamed tag.at tag.name.now (place_seen place)
-state_seen (state.InTag tag test place) = e.InTag tag.at tag.name.now (test_state_seen test) (place_seen place)
-state_seen (state.ClosingOpened place) = e.ClosingOpened (place_seen place)
-state_seen (state.ClosingNamed tag place) = e.ClosingNamed tag.at tag.name.now (place_seen place)
-state_seen (state.AtomRead atom place) = e.AtomRead (part_seen atom) (place_seen place)
-state_seen (state.InRepeat atom at counting place) = e.InRepeat (part_seen atom) at (counting_seen counting) (place_seen place)
-state_seen (state.ItemRead sequence branches around) = e.ItemRead (part_seen sequence) (maybe_part_seen branches) (around_seen around)
-state_seen (state.FiltersRead choice filters heads) = e.FiltersRead (part_seen choice) (filters_seen filters) (map head_seen heads)
-state_seen (state.BangRead asked heads) = e.BangRead (asked_seen asked) (map head_seen heads)
-state_seen (state.InCond asked conds cond) = e.InCond (asked_seen asked) (conds_seen conds) (condition_seen cond)
-state_seen (state.CondRead asked conds) = e.CondRead (asked_seen asked) (conds_seen conds)
+abbrev pub at_phase : Phase → State → PartState
+at_phase phase.Wanted state = e.Wanted (place_of state)
+at_phase (phase.LabelRead at number) state = e.LabelRead at number (place_of state)
+at_phase (phase.LabelDone at number) state = e.LabelDone at number (place_of state)
+at_phase (phase.TokenOpened label) state = e.TokenOpened (label_seen label) (place_of state)
+at_phase (phase.InToken label) state = e.InToken (label_seen label) (tests_seen state.tests) (place_of state)
+at_phase phase.TagOpened state = e.TagOpened (place_of state)
+at_phase (phase.TagNamed tag) state = e.TagNamed tag.at tag.name.now (place_of state)
+at_phase (phase.InTag tag) state = e.InTag tag.at tag.name.now (tests_seen state.tests) (place_of state)
+at_phase phase.ClosingOpened state = e.ClosingOpened (place_of state)
+at_phase (phase.ClosingNamed tag) state = e.ClosingNamed tag.at tag.name.now (place_of state)
+at_phase phase.AtomRead state = e.AtomRead (part_seen state.part) (place_of state)
+at_phase (phase.InRepeat at counting) state = e.InRepeat (part_seen state.part) at (counting_seen counting) (place_of state)
+at_phase phase.ItemRead state = e.ItemRead (part_seen state.part) (maybe_part_seen state.before.branches) (around_of state)
+at_phase phase.FiltersRead state = e.FiltersRead (part_seen state.part) (filters_seen state.filters) (map head_seen state.heads)
+at_phase phase.BangRead state = e.BangRead (asked_of state) (map head_seen state.heads)
+at_phase (phase.InCond cond) state = e.InCond (asked_of state) (conds_seen state.conds) (condition_seen cond)
+at_phase phase.CondRead state = e.CondRead (asked_of state) (conds_seen state.conds)
 
-abbrev pub maybe_state_seen : Option State → Option PartState
-maybe_state_seen None = None
-maybe_state_seen (Some state) = Some (state_seen state)
+abbrev pub state_seen : State → PartState
+state_seen state = at_phase state.phase state
+
+-- where the reading stands then, where a query goes on
+abbrev pub next : Bool → State → Option PartState
+next true state = Some (state_seen state)
+next false state = None
 
 -- how a query is built under a registry and an attribute of bare strings
 abbrev pub ways : Reader → e.Ways (λ of. p.TestParts) p.Parts p.FilterParts p.CondsPart (Result Query Refusal)

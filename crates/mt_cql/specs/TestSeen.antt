@@ -1,17 +1,18 @@
 -- What the state of a test that is being read stands for.
-use Rattle.std.specs.Prelude.{ℕ, List, Option, None, Some, map, option_copied}
+use Rattle.std.specs.Prelude.{ℕ, Bool, true, false, List, Option, None, Some, map, option_copied}
 use Rattle.std.specs.Option.{option_map as map_option}
 use Rattle.mt_query_spec.specs.Trees as tree
 use Rattle.mt_cql.specs.declared.parts.TestPart.{TestPart}
-use Rattle.mt_cql.specs.declared.test_reader.Comparison.{Comparison}
-use Rattle.mt_cql.specs.declared.test_reader.Comparison.TheVariants.{Accepts, Refuses, Equals, Differs}
-use Rattle.mt_cql.specs.declared.test_reader.Level.{Level}
-use Rattle.mt_cql.specs.declared.test_reader.Names.{Names}
-use Rattle.mt_cql.specs.declared.test_reader.TestState.{TestState}
-use Rattle.mt_cql.specs.declared.test_reader.TestState.TheVariants.{Wanted, Named, Compares, Read}
-use Rattle.mt_cql.specs.Machine as m
+use Rattle.mt_cql.specs.declared.tests.Comparison.{Comparison}
+use Rattle.mt_cql.specs.declared.tests.Comparison.TheVariants.{Accepts, Refuses, Equals, Differs}
+use Rattle.mt_cql.specs.declared.tests.Level.{Level}
+use Rattle.mt_cql.specs.declared.tests.Names.{Names}
+use Rattle.mt_cql.specs.declared.tests.Tests.{Tests}
+use Rattle.mt_cql.specs.declared.tests.TestPhase.{TestPhase}
+use Rattle.mt_cql.specs.declared.tests.TestPhase.TheVariants.{Wanted, Named, Compares, Read}
+use Rattle.mt_query_laws.specs.Machine as m
 use Rattle.mt_cql.specs.Named.{names_in}
-use Rattle.mt_cql.specs.Parts as p
+use Rattle.mt_query_laws.specs.Parts as p
 use Rattle.mt_cql.specs.Shape.{test_part_seen}
 
 -- the tests that name these attributes, where a bare string is a pattern for an attribute or is no test
@@ -48,12 +49,16 @@ maybe_test_part_seen (Some part) = Some (test_part_seen part)
 abbrev pub level_seen : Level → m.Level p.TestParts
 level_seen level = record { either = maybe_test_part_seen level.either; both = maybe_test_part_seen level.both; nots = level.nots }
 
-abbrev pub test_state_seen : TestState → m.TestState p.TestParts
-test_state_seen (Wanted level outer) = m.WantTest (level_seen level) (map level_seen outer)
-test_state_seen (Named at name level outer) = m.Named at name.now (level_seen level) (map level_seen outer)
-test_state_seen (Compares at name comparison level outer) = m.Compares at name.now (comparison_seen comparison) (level_seen level) (map level_seen outer)
-test_state_seen (Read both either outer) = m.HaveTest (test_part_seen both) (maybe_test_part_seen either) (map level_seen outer)
+abbrev pub at_phase : TestPhase → Tests → m.TestState p.TestParts
+at_phase Wanted tests = m.WantTest (level_seen tests.level) (map level_seen tests.outer)
+at_phase (Named at name) tests = m.Named at name.now (level_seen tests.level) (map level_seen tests.outer)
+at_phase (Compares at name comparison) tests = m.Compares at name.now (comparison_seen comparison) (level_seen tests.level) (map level_seen tests.outer)
+at_phase Read tests = m.HaveTest (test_part_seen tests.test) (maybe_test_part_seen tests.level.either) (map level_seen tests.outer)
 
-abbrev pub maybe_test_state_seen : Option TestState → Option (m.TestState p.TestParts)
-maybe_test_state_seen None = None
-maybe_test_state_seen (Some state) = Some (test_state_seen state)
+abbrev pub tests_seen : Tests → m.TestState p.TestParts
+tests_seen tests = at_phase tests.phase tests
+
+-- where the reading of a test stands then, where it goes on
+abbrev pub next_test : Bool → Tests → Option (m.TestState p.TestParts)
+next_test true tests = Some (tests_seen tests)
+next_test false tests = None

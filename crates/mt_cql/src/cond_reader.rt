@@ -2,20 +2,19 @@
 
 ghost use Rattle.std.specs.Prelude.{◌≡◌, Some, IfOk};
 ghost use Rattle.mt_text_spec.specs.Registries.{ValidRegistry};
-ghost use Rattle.mt_cql.specs.Exprs as exprs;
+ghost use Rattle.mt_query_laws.specs.Exprs as exprs;
 ghost use Rattle.mt_cql.specs.Seen.{token_seen};
 ghost use Rattle.mt_cql.specs.Shape.{conds_seen};
-ghost use Rattle.mt_cql.specs.StateSeen.{ways, asked_seen, side_seen, side_state_seen, condition_seen, maybe_condition_seen, cond_tree_seen, maybe_state_seen};
+ghost use Rattle.mt_cql.specs.StateSeen.{ways, asked_of, side_seen, side_state_seen, condition_seen, maybe_condition_seen, cond_tree_seen, next};
 
 use super::conds::{Written, one_more};
-use super::parts::CondsPart;
 use super::reader::Reader;
-use super::state::{Asked, Condition, Side, SideState, State};
+use super::state::{Condition, Phase, Side, SideState, State};
 use super::token::{Sign, Token};
 use mt_base::NoMemory;
 
 /// The next token of the left side of a condition.
-#[tactic(auto, unfolding(crate::specs::Exprs::left_step))]
+#[tactic(auto, unfolding(mt_query_laws::specs::Exprs::left_step))]
 fn left_step<'a>(side: SideState, token: Token<'a>) -> Option<Condition<'a>>
     ensures { maybe_condition_seen result ≡ exprs.left_step (side_state_seen side) (token_seen token.entry) }
 {
@@ -39,7 +38,7 @@ fn left_step<'a>(side: SideState, token: Token<'a>) -> Option<Condition<'a>>
 }
 
 /// The sign between the sides of a condition.
-#[tactic(auto, unfolding(crate::specs::Exprs::sign_step))]
+#[tactic(auto, unfolding(mt_query_laws::specs::Exprs::sign_step))]
 fn sign_step<'a>(left: Side<'a>, token: Token<'a>) -> Option<Condition<'a>>
     ensures { maybe_condition_seen result ≡ exprs.sign_step (side_seen left.entry) (token_seen token.entry) }
 {
@@ -56,7 +55,7 @@ fn sign_step<'a>(left: Side<'a>, token: Token<'a>) -> Option<Condition<'a>>
 }
 
 /// The next token of the right side of a condition, before its name.
-#[tactic(auto, unfolding(crate::specs::Exprs::right_step))]
+#[tactic(auto, unfolding(mt_query_laws::specs::Exprs::right_step))]
 fn right_step<'a>(
     left: Side<'a>,
     equal: bool,
@@ -79,56 +78,45 @@ fn right_step<'a>(
 
 impl<'a> Reader<'a> {
     /// A condition is read.
-    fn cond_read(
-        &self,
-        asked: Asked,
-        conds: CondsPart,
-        written: Written<'a>,
-    ) -> Result<Option<State<'a>>, NoMemory>
+    fn cond_read(&self, state: &mut State<'a>, written: Written<'a>) -> Result<bool, NoMemory>
         requires { ValidRegistry self.now.registry.now }
-        ensures { IfOk result (λ next. maybe_state_seen next
-            ≡ Some (exprs.CondRead (asked_seen asked) ((ways self.now).cond (asked_seen asked).choice (conds_seen conds) (cond_tree_seen written.entry)))) }
+        ensures { IfOk result (λ goes. next goes state.new
+            ≡ Some (exprs.CondRead (asked_of state.old) ((ways self.now).cond (asked_of state.old).choice (conds_seen state.old.conds) (cond_tree_seen written.entry)))) }
     {
-        let conds = one_more(self.registry, &asked.choice, conds, &written)?;
-        Ok(Some(State::CondRead { asked, conds }))
+        one_more(self.registry, &state.part, &mut state.conds, &written)?;
+        state.phase = Phase::CondRead;
+        Ok(true)
     }
 
     /// What of a condition is read then, where it goes on.
-    #[tactic(auto, unfolding(crate::specs::Exprs::in_cond))]
-    fn in_cond(
-        &self,
-        asked: Asked,
-        conds: CondsPart,
-        cond: Option<Condition<'a>>,
-    ) -> Option<State<'a>>
-        ensures { maybe_state_seen result ≡ exprs.in_cond (ways self.now) (asked_seen asked) (conds_seen conds) (maybe_condition_seen cond.entry) }
+    #[tactic(auto, unfolding(mt_query_laws::specs::Exprs::in_cond))]
+    fn in_cond(&self, state: &mut State<'a>, cond: Option<Condition<'a>>) -> bool
+        ensures { next result state.new ≡ exprs.in_cond (ways self.now) (asked_of state.old) (conds_seen state.old.conds) (maybe_condition_seen cond.entry) }
     {
         match cond {
-            None => {
-                drop(asked);
-                drop(conds);
-                None
+            None => false,
+            Some(cond) => {
+                state.phase = Phase::InCond { cond };
+                true
             }
-            Some(cond) => Some(State::InCond { asked, conds, cond }),
         }
     }
 
     /// The next token of a condition.
-    #[tactic(auto, unfolding(crate::specs::Exprs::cond_step))]
+    #[tactic(auto, unfolding(mt_query_laws::specs::Exprs::cond_step))]
     pub fn cond_step(
         &self,
-        asked: Asked,
-        conds: CondsPart,
+        state: &mut State<'a>,
         cond: Condition<'a>,
         token: Token<'a>,
-    ) -> Result<Option<State<'a>>, NoMemory>
+    ) -> Result<bool, NoMemory>
         requires { ValidRegistry self.now.registry.now }
-        ensures { IfOk result (λ next. maybe_state_seen next
-            ≡ exprs.cond_step (ways self.now) (asked_seen asked) (conds_seen conds) (condition_seen cond.entry) (token_seen token.entry)) }
+        ensures { IfOk result (λ goes. next goes state.new
+            ≡ exprs.cond_step (ways self.now) (asked_of state.old) (conds_seen state.old.conds) (condition_seen cond.entry) (token_seen token.entry)) }
     {
         match cond {
-            Condition::Left(side) => Ok(self.in_cond(asked, conds, left_step(side, token))),
-            Condition::LeftRead(left) => Ok(self.in_cond(asked, conds, sign_step(left, token))),
+            Condition::Left(side) => Ok(self.in_cond(state, left_step(side, token))),
+            Condition::LeftRead(left) => Ok(self.in_cond(state, sign_step(left, token))),
             Condition::Right { left, equal, right } => match (right, token) {
                 (SideState::Dotted { at, number }, Token::Word { at: name_at, name }) => {
                     let right = Side {
@@ -137,31 +125,26 @@ impl<'a> Reader<'a> {
                         name_at,
                         name,
                     };
-                    self.cond_read(asked, conds, Written { left, equal, right })
+                    self.cond_read(state, Written { left, equal, right })
                 }
-                (right, token) => {
-                    Ok(self.in_cond(asked, conds, right_step(left, equal, right, token)))
-                }
+                (right, token) => { Ok(self.in_cond(state, right_step(left, equal, right, token))) }
             },
         }
     }
 
     /// The next token behind a condition.
-    #[tactic(auto, unfolding(crate::specs::Exprs::conds_step))]
-    pub fn conds_step(&self, asked: Asked, conds: CondsPart, token: Token<'a>) -> Option<State<'a>>
-        ensures { maybe_state_seen result ≡ exprs.conds_step (ways self.now) (asked_seen asked) (conds_seen conds) (token_seen token.entry) }
+    #[tactic(auto, unfolding(mt_query_laws::specs::Exprs::conds_step))]
+    pub fn conds_step(&self, state: &mut State<'a>, token: Token<'a>) -> bool
+        ensures { next result state.new ≡ exprs.conds_step (ways self.now) (asked_of state.old) (conds_seen state.old.conds) (token_seen token.entry) }
     {
         match token {
-            Token::Mark(Sign::And) => Some(State::InCond {
-                asked,
-                conds,
-                cond: Condition::Left(SideState::Started),
-            }),
-            _ => {
-                drop(asked);
-                drop(conds);
-                None
+            Token::Mark(Sign::And) => {
+                state.phase = Phase::InCond {
+                    cond: Condition::Left(SideState::Started),
+                };
+                true
             }
+            _ => false,
         }
     }
 }

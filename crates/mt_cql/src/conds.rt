@@ -1,9 +1,9 @@
 //! Conditions that were read, and what of them is at fault.
 
-ghost use Rattle.std.specs.Prelude.{◌≡◌, ◌+◌, ◌≤◌, [], None, length, IfOk};
+ghost use Rattle.std.specs.Prelude.{◌≡◌, ◌+◌, ◌≤◌, [], None, length, OnOk};
 ghost use Rattle.mt_text_spec.specs.Registries.{ValidRegistry, attr_names};
 ghost use Rattle.mt_query_spec.specs.Meaning as meaning;
-ghost use Rattle.mt_cql.specs.Parts as spec;
+ghost use Rattle.mt_query_laws.specs.Parts as spec;
 ghost use Rattle.mt_cql.specs.Shape.{cond_seen, part_seen, conds_seen};
 ghost use Rattle.mt_cql.specs.StateSeen.{cond_tree_seen};
 
@@ -107,18 +107,15 @@ pub fn no_conds(alloc: Global) -> CondsPart
 pub fn one_more(
     registry: &Registry,
     head: &Part,
-    conds: CondsPart,
+    conds: &mut CondsPart,
     written: &Written<'_>,
-) -> Result<CondsPart, NoMemory>
+) -> Result<(), NoMemory>
     requires { ValidRegistry registry.now }
-    ensures { IfOk result (λ p. conds_seen p ≡ spec.cond_part registry.now (part_seen head.now) (conds_seen conds) (cond_tree_seen written.now)) }
+    ensures { OnOk result (conds_seen conds.new ≡ spec.cond_part registry.now (part_seen head.now) (conds_seen conds.old) (cond_tree_seen written.now)) }
 {
-    let mut list = conds.conds;
-    list.push(cond_of(registry, written))?;
-    Ok(CondsPart {
-        conds: list,
-        label: least_of(conds.label, cond_label_fault(&head.labels, written)),
-        unknown: first_of(conds.unknown, cond_unknown(registry, written)),
-        nodes: more(conds.nodes),
-    })
+    conds.conds.push(cond_of(registry, written))?;
+    conds.label = least_of(conds.label, cond_label_fault(&head.labels, written));
+    conds.unknown = first_of(conds.unknown, cond_unknown(registry, written));
+    conds.nodes = more(conds.nodes);
+    Ok(())
 }

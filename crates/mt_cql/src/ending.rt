@@ -2,17 +2,17 @@
 
 ghost use Rattle.std.specs.Prelude.{◌≡◌, None, Some, map, nat_lt, ◌||◌, IfOk};
 ghost use Rattle.mt_query_spec.specs.Verdicts as verdicts;
-ghost use Rattle.mt_cql.specs.Exprs as exprs;
-ghost use Rattle.mt_cql.specs.Parts as spec;
-ghost use Rattle.mt_cql.specs.Reading.{or_refused};
+ghost use Rattle.mt_query_laws.specs.Exprs as exprs;
+ghost use Rattle.mt_query_laws.specs.Parts as spec;
+ghost use Rattle.mt_query_laws.specs.Reading.{or_refused};
 ghost use Rattle.mt_cql.specs.Shape.{Said, query_seen, part_seen, filters_seen, conds_seen};
-ghost use Rattle.mt_cql.specs.StateSeen.{ways, maybe_part_seen, around_seen, asked_seen, maybe_asked_seen, place_seen, state_seen, fault_seen};
+ghost use Rattle.mt_cql.specs.StateSeen.{ways, maybe_part_seen, head_seen, around_of, asked_of, asked_now, place_of, state_seen, fault_seen};
 
 use super::conds::no_conds;
 use super::parts::{CondsPart, FiltersPart, MOST_NODES, Part, chained, first_of, least_of, sum};
 use super::query::{Cause, Filters, Query, QueryError};
 use super::reader::Reader;
-use super::state::{Around, Asked, Place, State};
+use super::state::{Phase, State};
 use std::alloc::Global;
 
 /// The least place of a range or a label at fault.
@@ -69,9 +69,9 @@ fn judged(
 fn asks(head: Part, conds: CondsPart) -> Result<Query, QueryError>
     ensures { Said result (spec.asks_part (part_seen head) (conds_seen conds)) }
 {
-    let fault = worst(head.range, least_of(head.label, conds.label));
-    let unknown = first_of(head.unknown, conds.unknown);
-    let is_great = is_great(sum(head.nodes, conds.nodes), head.size);
+    let fault = worst(head.faults.range, least_of(head.faults.label, conds.label));
+    let unknown = first_of(head.faults.unknown, conds.unknown);
+    let is_great = is_great(sum(head.faults.nodes, conds.nodes), head.faults.size);
     let query = Query {
         head: head.expr,
         filters: Filters::End,
@@ -89,11 +89,17 @@ fn asks_filtered(
 ) -> Result<Query, QueryError>
     ensures { Said result (spec.asks_filtered_part (part_seen head) (filters_seen filters) (conds_seen conds)) }
 {
-    let label = least_of(least_of(head.label, filters.label), conds.label);
-    let fault = worst(least_of(head.range, filters.range), label);
-    let unknown = first_of(first_of(head.unknown, filters.unknown), conds.unknown);
-    let nodes = sum(head.nodes, sum(filters.nodes, conds.nodes));
-    let is_great = is_great(nodes, sum(head.size, filters.size));
+    let label = least_of(
+        least_of(head.faults.label, filters.faults.label),
+        conds.label,
+    );
+    let fault = worst(least_of(head.faults.range, filters.faults.range), label);
+    let unknown = first_of(
+        first_of(head.faults.unknown, filters.faults.unknown),
+        conds.unknown,
+    );
+    let nodes = sum(head.faults.nodes, sum(filters.faults.nodes, conds.nodes));
+    let is_great = is_great(nodes, sum(head.faults.size, filters.faults.size));
     match chained(alloc, filters.filters) {
         Err(_) => Err(QueryError::NoMemory),
         Ok(filters) => {
@@ -119,82 +125,79 @@ fn too_early(end: u32) -> Result<Query, QueryError>
 
 impl<'a> Reader<'a> {
     /// The query of a head with its filters and its conditions.
-    fn query_of(&self, asked: Asked, conds: CondsPart) -> Result<Query, QueryError>
-        ensures { Said result (exprs.query_of (ways self.now) (asked_seen asked) (conds_seen conds)) }
+    fn query_of(&self, state: State<'a>) -> Result<Query, QueryError>
+        ensures { Said result (exprs.query_of (ways self.now) (asked_of state.entry) (conds_seen state.entry.conds)) }
     {
-        let Asked { choice, filters } = asked;
-        match filters {
-            None => asks(choice, conds),
-            Some(filters) => asks_filtered(self.alloc, choice, filters, conds),
+        let State {
+            part,
+            has_filters,
+            filters,
+            conds,
+            ..
+        } = state;
+        if has_filters {
+            asks_filtered(self.alloc, part, filters, conds)
+        } else {
+            asks(part, conds)
         }
     }
 
-    /// A query without conditions, where there is one.
-    #[tactic(auto, unfolding(crate::specs::Exprs::ends))]
-    fn ends(&self, asked: Option<Asked>, end: u32) -> Result<Query, QueryError>
-        ensures { Said result (or_refused (exprs.ends (ways self.now) (maybe_asked_seen asked) (ways self.now).no_conds) end) }
+    /// A query without conditions, where the head of one ends.
+    #[tactic(auto, unfolding(mt_query_laws::specs::Exprs::ends))]
+    fn ends(&self, state: State<'a>, asked: bool, end: u32) -> Result<Query, QueryError>
+        ensures { Said result (or_refused (exprs.ends (ways self.now) (asked_now asked state.entry) (ways self.now).no_conds) end) }
     {
-        match asked {
-            None => too_early(end),
-            Some(asked) => self.query_of(asked, no_conds(self.alloc)),
+        if !asked {
+            return too_early(end);
         }
+        let mut state = state;
+        state.conds = no_conds(self.alloc);
+        self.query_of(state)
     }
 
     /// The text ends behind an item.
-    fn end_choice(
-        &self,
-        sequence: Part,
-        branches: Option<Part>,
-        around: Around,
-        end: u32,
-    ) -> Result<Query, QueryError>
+    fn end_choice(&self, state: State<'a>, end: u32) -> Result<Query, QueryError>
         ensures { Said result (or_refused (exprs.ends (ways self.now)
-            (exprs.asked_of (ways self.now) (exprs.choice_of (ways self.now) (maybe_part_seen branches) (part_seen sequence)) (around_seen around).groups (around_seen around).heads)
-            (ways self.now).no_conds) end) }
+            (exprs.asked_of (ways self.now) (exprs.choice_of (ways self.now) (maybe_part_seen state.entry.before.branches) (part_seen state.entry.part))
+            (around_of state.entry).groups (around_of state.entry).heads) (ways self.now).no_conds) end) }
     {
-        match self.choice_of(branches, sequence) {
-            Err(_) => Err(QueryError::NoMemory),
-            Ok(choice) => match self.asked_of(choice, around) {
-                Err(_) => Err(QueryError::NoMemory),
-                Ok(asked) => self.ends(asked, end),
-            },
-        }
+        let mut state = state;
+        self.choice_read(&mut state)?;
+        let asked = self.asked_of(&mut state)?;
+        self.ends(state, asked, end)
     }
 
     /// The text ends behind an atom.
-    #[tactic(auto, unfolding(crate::specs::Exprs::finish))]
-    fn end_item(&self, atom: Part, place: Place, end: u32) -> Result<Query, QueryError>
-        ensures { Said result (or_refused (exprs.finish (ways self.now) (exprs.AtomRead (part_seen atom) (place_seen place))) end) }
+    #[tactic(auto, unfolding(mt_query_laws::specs::Exprs::finish))]
+    fn end_item(&self, state: State<'a>, end: u32) -> Result<Query, QueryError>
+        ensures { Said result (or_refused (exprs.finish (ways self.now) (exprs.AtomRead (part_seen state.entry.part) (place_of state.entry))) end) }
     {
-        let Place { before, around } = place;
-        match self.sequence_of(before.sequence, atom) {
-            Err(_) => Err(QueryError::NoMemory),
-            Ok(sequence) => self.end_choice(sequence, before.branches, around, end),
-        }
+        let mut state = state;
+        self.atom_alone(&mut state)?;
+        self.end_choice(state, end)
+    }
+
+    /// The text ends behind filters.
+    fn end_filters(&self, state: State<'a>, end: u32) -> Result<Query, QueryError>
+        ensures { Said result (or_refused (exprs.ends (ways self.now)
+            (exprs.asked_filters (ways self.now) (part_seen state.entry.part) (filters_seen state.entry.filters) (map head_seen state.entry.heads)) (ways self.now).no_conds) end) }
+    {
+        let mut state = state;
+        let asked = self.asked_filters(&mut state);
+        self.ends(state, asked, end)
     }
 
     /// What is said where the tokens end: the query that they are, or that the end comes too early.
-    #[tactic(auto, unfolding(crate::specs::Exprs::finish))]
+    #[tactic(auto, unfolding(mt_query_laws::specs::Exprs::finish))]
     pub fn finish(&self, state: State<'a>, end: u32) -> Result<Query, QueryError>
         ensures { Said result (or_refused (exprs.finish (ways self.now) (state_seen state.entry)) end) }
     {
-        match state {
-            State::AtomRead { atom, place } => self.end_item(atom, place, end),
-            State::ItemRead {
-                sequence,
-                branches,
-                around,
-            } => self.end_choice(sequence, branches, around, end),
-            State::FiltersRead {
-                choice,
-                filters,
-                heads,
-            } => self.ends(self.asked_filters(choice, filters, heads), end),
-            State::CondRead { asked, conds } => self.query_of(asked, conds),
-            other => {
-                drop(other);
-                too_early(end)
-            }
+        match state.phase {
+            Phase::AtomRead => self.end_item(state, end),
+            Phase::ItemRead => self.end_choice(state, end),
+            Phase::FiltersRead => self.end_filters(state, end),
+            Phase::CondRead => self.query_of(state),
+            _ => too_early(end),
         }
     }
 }

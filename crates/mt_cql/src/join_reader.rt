@@ -1,19 +1,18 @@
-//! Reading a query, token by token: sequences, choices, parentheses and filters.
+//! Reading a query, token by token: choices, parentheses and filters, where they end.
 
-ghost use Rattle.std.specs.Prelude.{◌≡◌, [], Some, map, IfOk};
-ghost use Rattle.mt_cql.specs.Exprs as exprs;
-ghost use Rattle.mt_cql.specs.Parts as spec;
-ghost use Rattle.mt_cql.specs.Seen.{token_seen};
-ghost use Rattle.mt_cql.specs.Shape.{part_seen, filters_seen, operand_seen, conds_seen};
-ghost use Rattle.mt_cql.specs.StateSeen.{ways, opens, maybe_part_seen, maybe_filters_seen, whole_op_seen, maybe_op_seen, head_seen, around_seen, group_seen, place_seen, asked_seen, maybe_asked_seen, maybe_filtered_seen, maybe_state_seen};
+ghost use Rattle.std.specs.Prelude.{◌≡◌, [], true, map, IfOk, OnOk};
+ghost use Rattle.mt_query_laws.specs.Exprs as exprs;
+ghost use Rattle.mt_query_laws.specs.Parts as spec;
+ghost use Rattle.mt_cql.specs.Shape.{part_seen, filters_seen, operand_seen};
+ghost use Rattle.mt_cql.specs.StateSeen.{ways, opens, maybe_part_seen, maybe_filters_seen, whole_op_seen, maybe_op_seen, head_seen, group_seen, asked_of, filtered_now, asked_now, next};
 
-use super::parts::{CondsPart, FiltersPart, OperandPart, Part};
+use super::parts::{FiltersPart, OperandPart, Part};
 use super::query::FilterKind;
 use super::reader::Reader;
 use super::stack::Stack;
-use super::state::{Around, Asked, Condition, Group, Head, Op, Place, State};
-use super::token::{Sign, Token};
+use super::state::{Group, Head, Op, Phase, State};
 use mt_base::NoMemory;
+use std::mem;
 
 /// The op that a word begins.
 pub fn op_of(at: u32, name: &str) -> Option<Op>
@@ -62,13 +61,26 @@ fn opens_operand(group: &Group, groups: &Stack<Group>, heads: &Stack<Head>) -> b
 
 impl<'a> Reader<'a> {
     /// A sequence behind others of its choice.
-    pub fn choice_of(&self, left: Option<Part>, sequence: Part) -> Result<Part, NoMemory>
+    fn choice_of(&self, left: Option<Part>, sequence: Part) -> Result<Part, NoMemory>
         ensures { IfOk result (λ p. part_seen p ≡ exprs.choice_of (ways self.now) (maybe_part_seen left) (part_seen sequence)) }
     {
         match left {
             None => Ok(sequence),
             Some(left) => Part::or(self.alloc, left, sequence),
         }
+    }
+
+    /// The choice ends that the sequence which was read belongs to.
+    pub fn choice_read(&self, state: &mut State<'a>) -> Result<(), NoMemory>
+        ensures part { OnOk result (part_seen state.new.part
+            ≡ exprs.choice_of (ways self.now) (maybe_part_seen state.old.before.branches) (part_seen state.old.part)) }
+        ensures groups { state.new.groups ≡ state.old.groups }
+        ensures heads { state.new.heads ≡ state.old.heads }
+    {
+        let sequence = mem::replace(&mut state.part, Part::none());
+        let branches = state.before.branches.take();
+        state.part = self.choice_of(branches, sequence)?;
+        Ok(())
     }
 
     /// A filter behind others.
@@ -86,181 +98,127 @@ impl<'a> Reader<'a> {
         }
     }
 
-    /// A filter whose operand is a choice, behind others.
-    fn with_operand(
-        &self,
-        left: Option<FiltersPart>,
-        op: Op,
-        choice: Part,
-    ) -> Result<FiltersPart, NoMemory>
-        ensures { IfOk result (λ f. filters_seen f ≡ exprs.filters_of (ways self.now) (maybe_filters_seen left) (whole_op_seen op) (spec.plain_part (part_seen choice))) }
+    /// The choice that was read is the operand of an op, and stands behind a head.
+    fn end_operand(&self, state: &mut State<'a>, head: Head) -> Result<(), NoMemory>
+        ensures choice { OnOk result (part_seen state.new.part ≡ (head_seen head).choice) }
+        ensures filters { OnOk result (filters_seen state.new.filters ≡ exprs.with_operand (ways self.now) (head_seen head) (part_seen state.old.part)) }
+        ensures has_filters { OnOk result (state.new.has_filters ≡ true) }
+        ensures groups { state.new.groups ≡ state.old.groups }
+        ensures heads { state.new.heads ≡ state.old.heads }
     {
-        self.filters_of(left, op, OperandPart::plain(choice))
+        let choice = mem::replace(&mut state.part, head.choice);
+        state.filters = self.filters_of(head.filters, head.op, OperandPart::plain(choice))?;
+        state.has_filters = true;
+        Ok(())
     }
 
     /// The filters of an operand end before a `)`.
-    #[tactic(auto, unfolding(crate::specs::Exprs::close_filters))]
-    pub fn close_filters(
-        &self,
-        choice: Part,
-        filters: FiltersPart,
-        heads: Stack<Head>,
-    ) -> Result<Option<State<'a>>, NoMemory>
-        ensures { IfOk result (λ next. maybe_state_seen next ≡ exprs.close_filters (ways self.now) (part_seen choice) (filters_seen filters) (map head_seen heads)) }
+    #[tactic(auto, unfolding(mt_query_laws::specs::Exprs::close_filters))]
+    pub fn close_filters(&self, state: &mut State<'a>) -> Result<bool, NoMemory>
+        ensures { IfOk result (λ goes. next goes state.new
+            ≡ exprs.close_filters (ways self.now) (part_seen state.old.part) (filters_seen state.old.filters) (map head_seen state.old.heads)) }
     {
-        let mut heads = heads;
-        match heads.pop() {
-            None => Ok(None),
+        match state.heads.pop() {
+            None => Ok(false),
             Some(head) => {
+                let choice = mem::replace(&mut state.part, head.choice);
+                let filters = mem::replace(&mut state.filters, FiltersPart::none(self.alloc));
                 let operand = OperandPart::filtered(self.alloc, choice, filters)?;
-                let filters = self.filters_of(head.filters, head.op, operand)?;
-                Ok(Some(State::FiltersRead {
-                    choice: head.choice,
-                    filters,
-                    heads,
-                }))
+                state.filters = self.filters_of(head.filters, head.op, operand)?;
+                state.phase = Phase::FiltersRead;
+                Ok(true)
             }
         }
     }
 
     /// A choice ends before a `)`.
-    #[tactic(auto, unfolding(crate::specs::Exprs::close_choice))]
-    pub fn close_choice(&self, choice: Part, around: Around) -> Result<Option<State<'a>>, NoMemory>
-        ensures { IfOk result (λ next. maybe_state_seen next
-            ≡ exprs.close_choice (ways self.now) (part_seen choice) (map group_seen around.groups) (map head_seen around.heads)) }
+    #[tactic(auto, unfolding(mt_query_laws::specs::Exprs::close_choice))]
+    pub fn close_choice(&self, state: &mut State<'a>) -> Result<bool, NoMemory>
+        ensures { IfOk result (λ goes. next goes state.new
+            ≡ exprs.close_choice (ways self.now) (part_seen state.old.part) (map group_seen state.old.groups) (map head_seen state.old.heads)) }
     {
-        let Around {
-            mut groups,
-            mut heads,
-        } = around;
-        match groups.pop() {
-            Some(before) => Ok(Some(State::AtomRead {
-                atom: choice,
-                place: Place {
-                    before,
-                    around: Around { groups, heads },
-                },
-            })),
-            None => match heads.pop() {
-                None => Ok(None),
+        match state.groups.pop() {
+            Some(before) => {
+                state.before = before;
+                state.phase = Phase::AtomRead;
+                Ok(true)
+            }
+            None => match state.heads.pop() {
+                None => Ok(false),
                 Some(head) => {
-                    let filters = self.with_operand(head.filters, head.op, choice)?;
-                    self.close_filters(head.choice, filters, heads)
+                    self.end_operand(state, head)?;
+                    self.close_filters(state)
                 }
             },
         }
     }
 
-    /// What an op filters behind a choice that stands in no parentheses, and the heads outside.
-    #[tactic(auto, unfolding(crate::specs::Exprs::before_op))]
-    fn filtered_by(
-        &self,
-        choice: Part,
-        heads: Stack<Head>,
-    ) -> Result<(Asked, Stack<Head>), NoMemory>
-        ensures { IfOk result (λ found. maybe_filtered_seen (Some found) ≡ exprs.before_op (ways self.now) (part_seen choice) [] (map head_seen heads)) }
+    /// A choice that stands in no parentheses ends before an op.
+    #[tactic(auto, unfolding(mt_query_laws::specs::Exprs::before_op))]
+    fn filtered_by(&self, state: &mut State<'a>) -> Result<bool, NoMemory>
+        ensures { IfOk result (λ goes. filtered_now goes state.new ≡ exprs.before_op (ways self.now) (part_seen state.old.part) [] (map head_seen state.old.heads)) }
     {
-        let mut heads = heads;
-        match heads.pop() {
-            None => Ok((
-                Asked {
-                    choice,
-                    filters: None,
-                },
-                heads,
-            )),
+        match state.heads.pop() {
+            None => {
+                state.has_filters = false;
+                Ok(true)
+            }
             Some(head) => {
-                let filters = self.with_operand(head.filters, head.op, choice)?;
-                let asked = Asked {
-                    choice: head.choice,
-                    filters: Some(filters),
-                };
-                Ok((asked, heads))
+                self.end_operand(state, head)?;
+                Ok(true)
             }
         }
     }
 
-    /// A choice ends before an op: what the op filters, and the heads outside.
-    #[tactic(auto, unfolding(crate::specs::Exprs::before_op))]
-    pub fn before_op(
-        &self,
-        choice: Part,
-        around: Around,
-    ) -> Result<Option<(Asked, Stack<Head>)>, NoMemory>
-        ensures { IfOk result (λ found. maybe_filtered_seen found
-            ≡ exprs.before_op (ways self.now) (part_seen choice) (map group_seen around.groups) (map head_seen around.heads)) }
+    /// A choice ends before an op: whether one may stand there.
+    #[tactic(auto, unfolding(mt_query_laws::specs::Exprs::before_op))]
+    pub fn before_op(&self, state: &mut State<'a>) -> Result<bool, NoMemory>
+        ensures { IfOk result (λ goes. filtered_now goes state.new
+            ≡ exprs.before_op (ways self.now) (part_seen state.old.part) (map group_seen state.old.groups) (map head_seen state.old.heads)) }
     {
-        let Around { mut groups, heads } = around;
-        match groups.pop() {
-            None => Ok(Some(self.filtered_by(choice, heads)?)),
+        match state.groups.pop() {
+            None => self.filtered_by(state),
             Some(group) => {
-                let opens = opens_operand(&group, &groups, &heads);
+                let opens = opens_operand(&group, &state.groups, &state.heads);
                 drop(group);
-                if opens {
-                    Ok(Some((
-                        Asked {
-                            choice,
-                            filters: None,
-                        },
-                        heads,
-                    )))
-                } else {
-                    drop(choice);
-                    Ok(None)
-                }
+                state.has_filters = false;
+                Ok(opens)
             }
         }
     }
 
-    /// A choice ends before a condition or the end of the text.
-    #[tactic(auto, unfolding(crate::specs::Exprs::asked_of))]
-    pub fn asked_of(&self, choice: Part, around: Around) -> Result<Option<Asked>, NoMemory>
-        ensures { IfOk result (λ found. maybe_asked_seen found ≡ exprs.asked_of (ways self.now) (part_seen choice) (map group_seen around.groups) (map head_seen around.heads)) }
+    /// A choice ends before a condition or the end of the text: whether the head of a query may end there.
+    #[tactic(auto, unfolding(mt_query_laws::specs::Exprs::asked_of))]
+    pub fn asked_of(&self, state: &mut State<'a>) -> Result<bool, NoMemory>
+        ensures { IfOk result (λ goes. asked_now goes state.new
+            ≡ exprs.asked_of (ways self.now) (part_seen state.old.part) (map group_seen state.old.groups) (map head_seen state.old.heads)) }
     {
-        let Around { groups, mut heads } = around;
-        if !groups.is_empty() {
-            drop(choice);
-            return Ok(None);
+        if !state.groups.is_empty() {
+            return Ok(false);
         }
-        match heads.pop() {
-            None => Ok(Some(Asked {
-                choice,
-                filters: None,
-            })),
+        match state.heads.pop() {
+            None => {
+                state.has_filters = false;
+                Ok(true)
+            }
             Some(head) => {
-                if !heads.is_empty() {
-                    drop(choice);
+                if !state.heads.is_empty() {
                     drop(head);
-                    return Ok(None);
+                    return Ok(false);
                 }
-                let filters = self.with_operand(head.filters, head.op, choice)?;
-                Ok(Some(Asked {
-                    choice: head.choice,
-                    filters: Some(filters),
-                }))
+                self.end_operand(state, head)?;
+                Ok(true)
             }
         }
     }
 
-    /// Filters end before a condition or the end of the text.
-    #[tactic(auto, unfolding(crate::specs::Exprs::asked_filters))]
-    pub fn asked_filters(
-        &self,
-        choice: Part,
-        filters: FiltersPart,
-        heads: Stack<Head>,
-    ) -> Option<Asked>
-        ensures { maybe_asked_seen result ≡ exprs.asked_filters (ways self.now) (part_seen choice) (filters_seen filters) (map head_seen heads) }
+    /// Filters end before a condition or the end of the text: whether the head of a query may end there.
+    #[tactic(auto, unfolding(mt_query_laws::specs::Exprs::asked_filters))]
+    pub fn asked_filters(&self, state: &mut State<'a>) -> bool
+        ensures { asked_now result state.new
+            ≡ exprs.asked_filters (ways self.now) (part_seen state.old.part) (filters_seen state.old.filters) (map head_seen state.old.heads) }
     {
-        if heads.is_empty() {
-            Some(Asked {
-                choice,
-                filters: Some(filters),
-            })
-        } else {
-            drop(choice);
-            drop(filters);
-            None
-        }
+        state.has_filters = true;
+        state.heads.is_empty()
     }
 }

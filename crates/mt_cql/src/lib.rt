@@ -2,12 +2,13 @@
 //!
 //! A text is read token by token (`lexer`), and each token takes the `State` that the reading is in to the next (`reader`, `tag_reader`, `test_reader`,
 //! `choice_reader`, `cond_reader`), until no query goes on so or the text ends (`ending`). What is read is kept as parts of the query, each with what is at
-//! fault in it (`parts`, `conds`). `laws` says that each text means one thing, and that a printed query is read as itself.
+//! fault in it (`parts`, `conds`).
 #![tactic(auto)]
 
 mod choice_reader;
 mod cond_reader;
 mod conds;
+mod copies;
 mod each_step;
 mod ending;
 mod join_reader;
@@ -21,15 +22,12 @@ mod reader;
 mod stack;
 mod state;
 mod tag_reader;
-mod test_reader;
+mod tests;
 mod text;
 mod text_reader;
 mod token;
 
-pub use laws::{
-    one_meaning, one_reading, print_then_parse, printed_is_read, read_is_valid, some_meaning,
-    valid_where_read,
-};
+pub use laws::print_then_parse;
 pub use printer::print;
 pub use query::{Cause, Cond, Expr, Filter, FilterKind, Filters, Query, QueryError, Test};
 pub use text_reader::parse;

@@ -6,12 +6,14 @@ ghost use Rattle.mt_query_spec.specs.Meaning as meaning;
 ghost use Rattle.mt_cql.specs.Named.{names_in};
 
 use mt_base::Registry;
+use mt_query_laws::name_numbers;
 
 /// The number of the attribute of tokens of this name.
 pub fn find_attr(registry: &Registry, name: &str) -> Option<u16>
     requires { ValidRegistry registry.now }
     ensures { result ≡ meaning.number_of (attr_names registry.now.attrs) name.now }
 {
+    name_numbers();
     registry.find_attr(name)
 }
 
@@ -20,6 +22,7 @@ pub fn find_kind(registry: &Registry, name: &str) -> Option<u16>
     requires { ValidRegistry registry.now }
     ensures { result ≡ meaning.number_of (kind_names registry.now.kinds) name.now }
 {
+    name_numbers();
     registry.find_kind(name)
 }
 
@@ -28,6 +31,7 @@ pub fn find(registry: &Registry, tag: Option<&str>, name: &str) -> Option<u16>
     requires { ValidRegistry registry.now }
     ensures { result ≡ meaning.number_of (names_in registry.now (option_copied tag.entry)) name.now }
 {
+    name_numbers();
     match tag {
         None => find_attr(registry, name),
         Some(kind) => match find_kind(registry, kind) {

@@ -4,10 +4,10 @@
 //! nodes allow, and to let go of one does not recurse as deep as the text is long.
 
 ghost use Rattle.std.specs.Prelude.{◌≡◌, ◌+◌, map, [], None, IfOk};
-ghost use Rattle.mt_text_spec.specs.Queries.{NoMore};
+ghost use Rattle.mt_text_spec.specs.Queries.{Any, TokenTest, NoMore};
 ghost use Rattle.mt_query_spec.specs.Meaning as meaning;
-ghost use Rattle.mt_cql.specs.Parts as spec;
-ghost use Rattle.mt_cql.specs.Shape.{shape, test_shape, filters_shape, test_part_seen, part_seen, label_seen, filter_seen, operand_seen, filters_seen, op_seen};
+ghost use Rattle.mt_query_laws.specs.Parts as spec;
+ghost use Rattle.mt_cql.specs.Shape.{shape, test_shape, filters_shape, test_part_seen, joined, part_seen, label_seen, filter_seen, operand_seen, filters_seen, op_seen};
 
 use super::query::{Cond, Expr, Filter, FilterKind, Filters, Test};
 use super::stack::Stack;
@@ -51,7 +51,7 @@ pub fn more(n: u32) -> u32
 pub const MOST_NODES: u32 = 256;
 
 /// A test of so many nodes, or a small one where these are too many.
-#[tactic(auto, unfolding(crate::specs::Parts::kept))]
+#[tactic(auto, unfolding(mt_query_laws::specs::Parts::kept))]
 fn kept_test(nodes: u32, test: Test) -> Test
     ensures { test_shape result ≡ spec.kept_test nodes (test_shape test) }
 {
@@ -63,7 +63,7 @@ fn kept_test(nodes: u32, test: Test) -> Test
 }
 
 /// An expression of a part of so many nodes, or a small one where these are too many.
-#[tactic(auto, unfolding(crate::specs::Parts::kept))]
+#[tactic(auto, unfolding(mt_query_laws::specs::Parts::kept))]
 fn kept_expr(nodes: u32, expr: Expr) -> Expr
     ensures { shape result ≡ spec.kept_expr nodes (shape expr) }
 {
@@ -78,7 +78,7 @@ fn kept_expr(nodes: u32, expr: Expr) -> Expr
 }
 
 /// The filters of an operand of so many nodes, or none where these are too many.
-#[tactic(auto, unfolding(crate::specs::Parts::kept))]
+#[tactic(auto, unfolding(mt_query_laws::specs::Parts::kept))]
 fn kept_chain(nodes: u32, filters: Filters) -> Filters
     ensures { filters_shape result ≡ spec.kept nodes NoMore (filters_shape filters) }
 {
@@ -90,7 +90,7 @@ fn kept_chain(nodes: u32, filters: Filters) -> Filters
 }
 
 /// Filters of so many nodes, or none where these are too many.
-#[tactic(auto, unfolding(crate::specs::Parts::kept))]
+#[tactic(auto, unfolding(mt_query_laws::specs::Parts::kept))]
 fn kept_filters(nodes: u32, filters: List<Filter>) -> List<Filter>
     ensures { map filter_seen result ≡ spec.kept nodes [] (map filter_seen filters) }
 {
@@ -112,6 +112,13 @@ pub struct TestPart {
 }
 
 impl TestPart {
+    /// No test.
+    pub fn none() -> TestPart
+        ensures { test_part_seen result ≡ spec.no_test_part }
+    {
+        TestPart::one(Test::Any, None)
+    }
+
     pub fn one(test: Test, unknown: Option<u32>) -> TestPart
         ensures { test_part_seen result ≡ record { test = test_shape test; unknown = unknown; nodes = 1 } }
     {
@@ -159,12 +166,9 @@ impl TestPart {
     }
 }
 
-/// An expression that was read.
-#[derive(Drop)]
-pub struct Part {
-    pub expr: Expr,
-    /// Where each label first stands.
-    pub labels: [Option<u32>; 9],
+/// What of a part is at fault, and how great it is.
+#[derive(Clone, Copy, Drop)]
+pub struct Faults {
     /// The least place of a label at fault.
     pub label: Option<u32>,
     /// The least place of a repetition from more to fewer.
@@ -173,6 +177,63 @@ pub struct Part {
     pub unknown: Option<u32>,
     pub nodes: u32,
     pub size: u32,
+}
+
+impl Faults {
+    /// Those of a part that is one item, whose only fault may be a name.
+    fn one(unknown: Option<u32>, nodes: u32) -> Faults
+        ensures { result ≡ record { label = None; range = None; unknown = unknown; nodes = nodes; size = 1 } }
+    {
+        Faults {
+            label: None,
+            range: None,
+            unknown,
+            nodes,
+            size: 1,
+        }
+    }
+
+    /// Those of two parts, one before the other.
+    pub fn join(self, right: Faults) -> Faults
+        ensures { result ≡ joined self right }
+    {
+        Faults {
+            label: least_of(self.label, right.label),
+            range: least_of(self.range, right.range),
+            unknown: first_of(self.unknown, right.unknown),
+            nodes: sum(self.nodes, right.nodes),
+            size: sum(self.size, right.size),
+        }
+    }
+
+    /// With one node more.
+    fn more(self) -> Faults
+        ensures { result ≡ record self { nodes = spec.capped (self.nodes + 1) } }
+    {
+        Faults {
+            nodes: more(self.nodes),
+            ..self
+        }
+    }
+
+    /// With one more place of a label at fault.
+    fn and_label(self, at: Option<u32>) -> Faults
+        ensures { result ≡ record self { label = meaning.least_of self.label at } }
+    {
+        Faults {
+            label: least_of(self.label, at),
+            ..self
+        }
+    }
+}
+
+/// An expression that was read.
+#[derive(Drop)]
+pub struct Part {
+    pub expr: Expr,
+    /// Where each label first stands.
+    pub labels: [Option<u32>; 9],
+    pub faults: Faults,
 }
 
 /// A label before a token test, or none.
@@ -294,6 +355,20 @@ fn least_again(firsts: &[Option<u32>], seconds: &[Option<u32>]) -> Option<u32>
 }
 
 impl Part {
+    /// Nothing, in the place of a part that is taken.
+    pub fn none() -> Part
+        ensures { part_seen result ≡ record { expr = TokenTest 0 Any; labels = spec.no_labels; label = None; range = None; unknown = None; nodes = 0; size = 1 } }
+    {
+        Part {
+            expr: Expr::Token {
+                label: 0,
+                test: Test::Any,
+            },
+            labels: no_labels(),
+            faults: Faults::one(None, 0),
+        }
+    }
+
     /// A token test under a label.
     pub fn token(label: Label, test: TestPart) -> Part
         ensures { part_seen result ≡ spec.token_part (label_seen label) (test_part_seen test) }
@@ -306,11 +381,10 @@ impl Part {
         Part {
             expr: kept_expr(nodes, expr),
             labels: label_places(label),
-            label: no_label(label),
-            range: None,
-            unknown: test.unknown,
-            nodes,
-            size: 1,
+            faults: Faults {
+                label: no_label(label),
+                ..Faults::one(test.unknown, nodes)
+            },
         }
     }
 
@@ -321,11 +395,7 @@ impl Part {
         Part {
             expr: kept_expr(nodes, expr),
             labels: no_labels(),
-            label: None,
-            range: None,
-            unknown,
-            nodes,
-            size: 1,
+            faults: Faults::one(unknown, nodes),
         }
     }
 
@@ -340,20 +410,20 @@ impl Part {
         ensures { IfOk result (λ p. part_seen p ≡ spec.repeats_part (part_seen inner) turns most turned) }
     {
         let under = if 1 < most { least(&inner.labels) } else { None };
-        let nodes = more(inner.nodes);
+        let faults = Faults {
+            range: least_of(inner.faults.range, turned),
+            size: inner.faults.size.saturating_mul(most.max(1)),
+            ..inner.faults.more().and_label(under)
+        };
         let expr = Expr::Repeat {
             inner: Box::new(alloc, inner.expr)?,
             least: turns,
             most,
         };
         Ok(Part {
-            expr: kept_expr(nodes, expr),
+            expr: kept_expr(faults.nodes, expr),
             labels: inner.labels,
-            label: least_of(inner.label, under),
-            range: least_of(inner.range, turned),
-            unknown: inner.unknown,
-            nodes,
-            size: inner.size.saturating_mul(most.max(1)),
+            faults,
         })
     }
 
@@ -362,16 +432,12 @@ impl Part {
         ensures { IfOk result (λ p. part_seen p ≡ spec.then_part (part_seen left) (part_seen right)) }
     {
         let again = least_again(&left.labels, &right.labels);
-        let nodes = more(sum(left.nodes, right.nodes));
+        let faults = left.faults.join(right.faults.and_label(again)).more();
         let expr = Expr::Seq(Box::new(alloc, left.expr)?, Box::new(alloc, right.expr)?);
         Ok(Part {
-            expr: kept_expr(nodes, expr),
+            expr: kept_expr(faults.nodes, expr),
             labels: firsts(left.labels, right.labels),
-            label: least_of(left.label, least_of(right.label, again)),
-            range: least_of(left.range, right.range),
-            unknown: first_of(left.unknown, right.unknown),
-            nodes,
-            size: sum(left.size, right.size),
+            faults,
         })
     }
 
@@ -379,17 +445,20 @@ impl Part {
     pub fn or(alloc: Global, left: Part, right: Part) -> Result<Part, NoMemory>
         ensures { IfOk result (λ p. part_seen p ≡ spec.or_part (part_seen left) (part_seen right)) }
     {
-        let nodes = more(sum(left.nodes, right.nodes));
+        let faults = left.faults.join(right.faults).more();
         let expr = Expr::Choice(Box::new(alloc, left.expr)?, Box::new(alloc, right.expr)?);
         Ok(Part {
-            expr: kept_expr(nodes, expr),
+            expr: kept_expr(faults.nodes, expr),
             labels: firsts(left.labels, right.labels),
-            label: least_of(left.label, right.label),
-            range: least_of(left.range, right.range),
-            unknown: first_of(left.unknown, right.unknown),
-            nodes,
-            size: sum(left.size, right.size),
+            faults,
         })
+    }
+
+    /// What is at fault in the part where it is an operand, in which each label is.
+    fn as_operand(&self) -> Faults
+        ensures { result ≡ record self.now.faults { label = meaning.least_of self.now.faults.label (meaning.least self.now.labels) } }
+    {
+        self.faults.and_label(least(&self.labels))
     }
 }
 
@@ -398,22 +467,14 @@ impl Part {
 pub struct OperandPart {
     pub head: Expr,
     pub filters: Filters,
-    pub label: Option<u32>,
-    pub range: Option<u32>,
-    pub unknown: Option<u32>,
-    pub nodes: u32,
-    pub size: u32,
+    pub faults: Faults,
 }
 
 /// Filters that were read, from left to right.
 #[derive(Drop)]
 pub struct FiltersPart {
     pub filters: List<Filter>,
-    pub label: Option<u32>,
-    pub range: Option<u32>,
-    pub unknown: Option<u32>,
-    pub nodes: u32,
-    pub size: u32,
+    pub faults: Faults,
 }
 
 /// The filters of a list, as a query keeps them.
@@ -433,14 +494,11 @@ impl OperandPart {
     pub fn plain(choice: Part) -> OperandPart
         ensures { operand_seen result ≡ spec.plain_part (part_seen choice) }
     {
+        let faults = choice.as_operand();
         OperandPart {
             head: choice.expr,
             filters: Filters::End,
-            label: least_of(choice.label, least(&choice.labels)),
-            range: choice.range,
-            unknown: choice.unknown,
-            nodes: choice.nodes,
-            size: choice.size,
+            faults,
         }
     }
 
@@ -452,22 +510,27 @@ impl OperandPart {
     ) -> Result<OperandPart, NoMemory>
         ensures { IfOk result (λ o. operand_seen o ≡ spec.with_filters_part (part_seen choice) (filters_seen filters)) }
     {
-        let label = least_of(choice.label, least(&choice.labels));
-        let nodes = sum(choice.nodes, filters.nodes);
+        let faults = choice.as_operand().join(filters.faults);
         let chain = chained(alloc, filters.filters)?;
         Ok(OperandPart {
-            head: kept_expr(nodes, choice.expr),
-            filters: kept_chain(nodes, chain),
-            label: least_of(label, filters.label),
-            range: least_of(choice.range, filters.range),
-            unknown: first_of(choice.unknown, filters.unknown),
-            nodes,
-            size: sum(choice.size, filters.size),
+            head: kept_expr(faults.nodes, choice.expr),
+            filters: kept_chain(faults.nodes, chain),
+            faults,
         })
     }
 }
 
 impl FiltersPart {
+    /// No filters.
+    pub fn none(alloc: Global) -> FiltersPart
+        ensures { filters_seen result ≡ record { filters = []; label = None; range = None; unknown = None; nodes = 0; size = 1 } }
+    {
+        FiltersPart {
+            filters: List::new(alloc),
+            faults: Faults::one(None, 0),
+        }
+    }
+
     /// One filter.
     pub fn one(
         alloc: Global,
@@ -476,7 +539,7 @@ impl FiltersPart {
     ) -> Result<FiltersPart, NoMemory>
         ensures { IfOk result (λ f. filters_seen f ≡ spec.filter_by (op_seen kind) (operand_seen operand)) }
     {
-        let nodes = more(operand.nodes);
+        let faults = operand.faults.more();
         let mut filters = List::new(alloc);
         filters.push(Filter {
             kind,
@@ -484,12 +547,8 @@ impl FiltersPart {
             filters: operand.filters,
         })?;
         Ok(FiltersPart {
-            filters: kept_filters(nodes, filters),
-            label: operand.label,
-            range: operand.range,
-            unknown: operand.unknown,
-            nodes,
-            size: operand.size,
+            filters: kept_filters(faults.nodes, filters),
+            faults,
         })
     }
 
@@ -501,7 +560,7 @@ impl FiltersPart {
     ) -> Result<FiltersPart, NoMemory>
         ensures { IfOk result (λ f. filters_seen f ≡ spec.more_by (filters_seen filters) (op_seen kind) (operand_seen operand)) }
     {
-        let nodes = more(sum(filters.nodes, operand.nodes));
+        let faults = filters.faults.join(operand.faults).more();
         let mut list = filters.filters;
         list.push(Filter {
             kind,
@@ -509,12 +568,8 @@ impl FiltersPart {
             filters: operand.filters,
         })?;
         Ok(FiltersPart {
-            filters: kept_filters(nodes, list),
-            label: least_of(filters.label, operand.label),
-            range: least_of(filters.range, operand.range),
-            unknown: first_of(filters.unknown, operand.unknown),
-            nodes,
-            size: sum(filters.size, operand.size),
+            filters: kept_filters(faults.nodes, list),
+            faults,
         })
     }
 }

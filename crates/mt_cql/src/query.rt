@@ -3,7 +3,7 @@
 use mt_base::{List, NoMemory, Value};
 
 /// A test of a token, or of an instance of a structure, whose attributes `attr` then numbers.
-#[derive(Debug, Drop)]
+#[derive(Drop)]
 pub enum Test {
     /// It holds of everything.
     Any,
@@ -17,7 +17,7 @@ pub enum Test {
 }
 
 /// What a part of a query matches.
-#[derive(Debug, Drop)]
+#[derive(Drop)]
 pub enum Expr {
     /// A token, under a label from 1 to 9, or under none, which is 0.
     Token {
@@ -61,7 +61,7 @@ pub enum FilterKind {
 
 /// A filter with its operand, which may have filters of its own.
 #[cycle(filters)]
-#[derive(Debug, Drop)]
+#[derive(Drop)]
 pub struct Filter {
     pub kind: FilterKind,
     pub head: Expr,
@@ -70,14 +70,14 @@ pub struct Filter {
 
 /// Filters from left to right.
 #[cycle(filters)]
-#[derive(Debug, Drop)]
+#[derive(Drop)]
 pub enum Filters {
     End,
     More(Box<Filter>, Box<Filters>),
 }
 
 /// A condition on the values at two labels: that they are equal, or that they differ.
-#[derive(Debug, Drop)]
+#[derive(Drop)]
 pub struct Cond {
     pub left: u8,
     pub left_attr: u16,
@@ -87,7 +87,7 @@ pub struct Cond {
 }
 
 /// A query: a head, filters on its matches and conditions on its labels.
-#[derive(Debug, Drop)]
+#[derive(Drop)]
 pub struct Query {
     pub head: Expr,
     pub filters: Filters,

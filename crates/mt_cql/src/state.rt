@@ -1,15 +1,33 @@
-//! Where the reading of a query stands.
+//! Where the reading of a query stands: a phase, and beside it the parts that were read, which each step changes in place.
+
+ghost use Rattle.std.specs.Prelude.{◌≡◌, None};
+ghost use Rattle.mt_cql.specs.StateSeen.{maybe_filters_seen, filters_where};
 
 use super::parts::{CondsPart, FiltersPart, Label, Part};
 use super::query::FilterKind;
 use super::stack::Stack;
-use super::test_reader::TestState;
+use super::tests::Tests;
+use std::alloc::Global;
+use std::mem;
 
 /// What stands before a choice inside parentheses: items before it in one sequence, sequences before that.
 #[derive(Drop)]
 pub struct Group {
     pub sequence: Option<Part>,
     pub branches: Option<Part>,
+}
+
+impl Group {
+    /// Nothing stands before.
+    pub fn none() -> Group
+        ensures sequence { result.sequence ≡ None }
+        ensures branches { result.branches ≡ None }
+    {
+        Group {
+            sequence: None,
+            branches: None,
+        }
+    }
 }
 
 /// The word of a filter, at its place.
@@ -25,20 +43,6 @@ pub struct Head {
     pub choice: Part,
     pub filters: Option<FiltersPart>,
     pub op: Op,
-}
-
-/// What stands round a choice that is being read: parentheses, and outside of them ops, of which each but the last stands in parentheses.
-#[derive(Drop)]
-pub struct Around {
-    pub groups: Stack<Group>,
-    pub heads: Stack<Head>,
-}
-
-/// Where an item stands.
-#[derive(Drop)]
-pub struct Place {
-    pub before: Group,
-    pub around: Around,
 }
 
 /// The name in a tag, at its place.
@@ -101,97 +105,68 @@ pub enum Condition<'a> {
     },
 }
 
-/// The head of a query and its filters.
-#[derive(Drop)]
-pub struct Asked {
-    pub choice: Part,
-    pub filters: Option<FiltersPart>,
+/// What was read last.
+#[derive(Clone, Copy, Drop)]
+pub enum Phase<'a> {
+    /// An item is wanted.
+    Wanted,
+    LabelRead { at: u32, number: u32 },
+    /// A label and its colon are read.
+    LabelDone { at: u32, number: u32 },
+    /// A `[` is read.
+    TokenOpened { label: Label },
+    /// Some of a token's test is read.
+    InToken { label: Label },
+    /// A `<` is read.
+    TagOpened,
+    TagNamed { tag: TagName<'a> },
+    /// Some of a tag's test is read.
+    InTag { tag: TagName<'a> },
+    /// A `</` is read.
+    ClosingOpened,
+    ClosingNamed { tag: TagName<'a> },
+    /// An atom is read, which may be repeated.
+    AtomRead,
+    InRepeat { at: u32, counting: Counting },
+    /// An item is read.
+    ItemRead,
+    /// An operand in parentheses is read, the last of some filters.
+    FiltersRead,
+    /// The `!` of an op is read.
+    BangRead,
+    InCond { cond: Condition<'a> },
+    CondRead,
 }
 
 /// Where the reading of a query stands.
 #[derive(Drop)]
-pub enum State<'a> {
-    /// An item is wanted.
-    Wanted {
-        place: Place,
-    },
-    LabelRead {
-        at: u32,
-        number: u32,
-        place: Place,
-    },
-    /// A label and its colon are read.
-    LabelDone {
-        at: u32,
-        number: u32,
-        place: Place,
-    },
-    /// A `[` is read.
-    TokenOpened {
-        label: Label,
-        place: Place,
-    },
-    InToken {
-        label: Label,
-        test: TestState<'a>,
-        place: Place,
-    },
-    /// A `<` is read.
-    TagOpened {
-        place: Place,
-    },
-    TagNamed {
-        tag: TagName<'a>,
-        place: Place,
-    },
-    InTag {
-        tag: TagName<'a>,
-        test: TestState<'a>,
-        place: Place,
-    },
-    /// A `</` is read.
-    ClosingOpened {
-        place: Place,
-    },
-    ClosingNamed {
-        tag: TagName<'a>,
-        place: Place,
-    },
-    /// An atom is read, which may be repeated.
-    AtomRead {
-        atom: Part,
-        place: Place,
-    },
-    InRepeat {
-        atom: Part,
-        at: u32,
-        counting: Counting,
-        place: Place,
-    },
-    /// An item is read: its sequence, and sequences before that.
-    ItemRead {
-        sequence: Part,
-        branches: Option<Part>,
-        around: Around,
-    },
-    /// An operand in parentheses is read, the last of some filters.
-    FiltersRead {
-        choice: Part,
-        filters: FiltersPart,
-        heads: Stack<Head>,
-    },
-    /// The `!` of an op is read.
-    BangRead {
-        asked: Asked,
-        heads: Stack<Head>,
-    },
-    InCond {
-        asked: Asked,
-        conds: CondsPart,
-        cond: Condition<'a>,
-    },
-    CondRead {
-        asked: Asked,
-        conds: CondsPart,
-    },
+pub struct State<'a> {
+    pub phase: Phase<'a>,
+    /// The test that is being read.
+    pub tests: Tests<'a>,
+    /// What was read last: an atom, a sequence, or a choice with filters and conditions behind it.
+    pub part: Part,
+    /// What stands before it in its parentheses.
+    pub before: Group,
+    /// The parentheses round it, and outside of them ops, of which each but the last stands in parentheses.
+    pub groups: Stack<Group>,
+    pub heads: Stack<Head>,
+    /// The filters behind a choice, where there are any.
+    pub has_filters: bool,
+    pub filters: FiltersPart,
+    pub conds: CondsPart,
+}
+
+impl<'a> State<'a> {
+    /// The filters behind a choice, where there are any.
+    pub fn take_filters(&mut self, alloc: Global) -> Option<FiltersPart>
+        ensures taken { maybe_filters_seen result ≡ filters_where self.old.has_filters self.old.filters }
+        ensures part { self.new.part ≡ self.old.part }
+        ensures heads { self.new.heads ≡ self.old.heads }
+    {
+        if !self.has_filters {
+            return None;
+        }
+        Some(mem::replace(&mut self.filters, FiltersPart::none(alloc)))
+    }
 }

@@ -1,41 +1,52 @@
 //! Reading a query, token by token: tags and repetitions.
 
-ghost use Rattle.std.specs.Prelude.{◌≡◌, ℕ, Some, IfOk};
+ghost use Rattle.std.specs.Prelude.{◌≡◌, Some, None, IfOk};
 ghost use Rattle.mt_text_spec.specs.Registries.{ValidRegistry, kind_names};
-ghost use Rattle.mt_query_spec.specs.Trees as tree;
-ghost use Rattle.mt_cql.specs.Machine as machine;
-ghost use Rattle.mt_cql.specs.Exprs as exprs;
-ghost use Rattle.mt_cql.specs.Parts as spec;
+ghost use Rattle.mt_query_laws.specs.Machine as machine;
+ghost use Rattle.mt_query_laws.specs.Exprs as exprs;
+ghost use Rattle.mt_query_laws.specs.Parts as spec;
 ghost use Rattle.mt_cql.specs.Seen.{token_seen};
 ghost use Rattle.mt_cql.specs.Shape.{test_part_seen, part_seen};
-ghost use Rattle.mt_cql.specs.TestSeen.{test_state_seen};
-ghost use Rattle.mt_cql.specs.StateSeen.{ways, place_seen, counting_seen, maybe_state_seen};
+ghost use Rattle.mt_cql.specs.TestSeen.{tests_seen, maybe_test_part_seen};
+ghost use Rattle.mt_cql.specs.StateSeen.{ways, place_of, counting_seen, next};
 
 use super::names::{find_kind, or_first, undeclared};
 use super::parts::{Part, TestPart, first_of, more};
-use super::query::{Expr, Test};
+use super::query::Expr;
 use super::reader::Reader;
-use super::state::{Counting, Place, State, TagName};
-use super::test_reader::{Names, TestState, test_start, test_step, whole_test};
+use super::state::{Counting, Phase, State, TagName};
+use super::tests::{Names, Tests};
 use super::token::{Sign, Token};
 use mt_base::NoMemory;
+use std::mem;
 
 impl<'a> Reader<'a> {
+    /// What the test of a tag of this name may name.
+    fn tag_names(&self, tag: TagName<'a>) -> Names<'a>
+        ensures registry { result.registry.now ≡ self.now.registry.now }
+        ensures tag { result.tag ≡ Some tag.entry.name }
+        ensures bare { result.bare ≡ None }
+    {
+        Names {
+            registry: self.registry,
+            tag: Some(tag.name),
+            bare: None,
+        }
+    }
+
     /// A tag at which an instance begins.
     fn begin_tag(&self, tag: TagName<'_>, test: TestPart) -> Part
         requires { ValidRegistry self.now.registry.now }
         ensures { part_seen result ≡ spec.begin_part (kind_names self.now.registry.now.kinds) tag.entry.at tag.entry.name.now (test_part_seen test) }
     {
         let found = find_kind(self.registry, tag.name);
+        let unknown = first_of(undeclared(tag.at, found), test.unknown);
+        let nodes = more(test.nodes);
         let expr = Expr::Begin {
             kind: or_first(found),
             test: test.test,
         };
-        Part::tag(
-            expr,
-            first_of(undeclared(tag.at, found), test.unknown),
-            more(test.nodes),
-        )
+        Part::tag(expr, unknown, nodes)
     }
 
     /// A tag of a whole instance.
@@ -44,19 +55,17 @@ impl<'a> Reader<'a> {
         ensures { part_seen result ≡ spec.whole_part (kind_names self.now.registry.now.kinds) tag.entry.at tag.entry.name.now (test_part_seen test) }
     {
         let found = find_kind(self.registry, tag.name);
+        let unknown = first_of(undeclared(tag.at, found), test.unknown);
+        let nodes = more(test.nodes);
         let expr = Expr::Whole {
             kind: or_first(found),
             test: test.test,
         };
-        Part::tag(
-            expr,
-            first_of(undeclared(tag.at, found), test.unknown),
-            more(test.nodes),
-        )
+        Part::tag(expr, unknown, nodes)
     }
 
     /// A tag at which an instance ends.
-    #[tactic(auto, unfolding(crate::specs::Parts::kept))]
+    #[tactic(auto, unfolding(mt_query_laws::specs::Parts::kept))]
     fn end_tag(&self, tag: TagName<'_>) -> Part
         requires { ValidRegistry self.now.registry.now }
         ensures { part_seen result ≡ spec.end_part (kind_names self.now.registry.now.kinds) tag.entry.at tag.entry.name.now }
@@ -69,213 +78,178 @@ impl<'a> Reader<'a> {
     }
 
     /// The next token of a tag's test.
-    #[tactic(auto, unfolding(crate::specs::Exprs::in_tag))]
+    #[tactic(auto, unfolding(mt_query_laws::specs::Exprs::in_tag))]
     fn in_tag(
         &self,
+        state: &mut State<'a>,
         tag: TagName<'a>,
-        test: TestState<'a>,
-        place: Place,
         token: Token<'a>,
-    ) -> Result<Option<State<'a>>, NoMemory>
+    ) -> Result<bool, NoMemory>
         requires { ValidRegistry self.now.registry.now }
-        ensures { IfOk result (λ next. maybe_state_seen next ≡ exprs.in_tag (ways self.now) tag.entry.at tag.entry.name.now (place_seen place)
-            (machine.test_step ((ways self.now).tag_tests tag.entry.name.now) (test_state_seen test.entry) (token_seen token.entry))) }
+        ensures { IfOk result (λ goes. next goes state.new ≡ exprs.in_tag (ways self.now) tag.entry.at tag.entry.name.now (place_of state.old)
+            (machine.test_step ((ways self.now).tag_tests tag.entry.name.now) (tests_seen state.old.tests) (token_seen token.entry))) }
     {
-        let names = Names {
-            registry: self.registry,
-            tag: Some(tag.name),
-            bare: None,
-        };
-        match test_step(self.alloc, &names, test, token)? {
-            None => Ok(None),
-            Some(test) => Ok(Some(State::InTag { tag, test, place })),
+        let names = self.tag_names(tag);
+        state.phase = Phase::InTag { tag };
+        if state.tests.step(self.alloc, &names, token)? {
+            Ok(true)
+        } else {
+            Ok(false)
         }
     }
 
-    /// A tag's test ends at `>`.
-    #[tactic(auto, unfolding(crate::specs::Exprs::begin_read))]
-    fn begin_read(
+    /// The test of a tag where it may end.
+    fn tag_test(
         &self,
+        state: &mut State<'a>,
         tag: TagName<'a>,
-        test: TestState<'a>,
-        place: Place,
-    ) -> Result<Option<State<'a>>, NoMemory>
-        requires { ValidRegistry self.now.registry.now }
-        ensures { IfOk result (λ next. maybe_state_seen next ≡ exprs.begin_read (ways self.now) tag.entry.at tag.entry.name.now (place_seen place)
-            (machine.whole_test ((ways self.now).tag_tests tag.entry.name.now) (test_state_seen test.entry))) }
+    ) -> Result<Option<TestPart>, NoMemory>
+        ensures test { IfOk result (λ test. maybe_test_part_seen test ≡ machine.whole_test ((ways self.now).tag_tests tag.entry.name.now) (tests_seen state.old.tests)) }
+        ensures place { place_of state.new ≡ place_of state.old }
     {
-        let names = Names {
-            registry: self.registry,
-            tag: Some(tag.name),
-            bare: None,
-        };
-        match whole_test(self.alloc, &names, test)? {
-            None => Ok(None),
-            Some(test) => Ok(Some(State::AtomRead {
-                atom: self.begin_tag(tag, test),
-                place,
-            })),
-        }
+        let names = self.tag_names(tag);
+        state.tests.whole(self.alloc, &names)
     }
 
-    /// A tag's test ends at `/>`.
-    #[tactic(auto, unfolding(crate::specs::Exprs::whole_read))]
-    fn whole_read(
-        &self,
-        tag: TagName<'a>,
-        test: TestState<'a>,
-        place: Place,
-    ) -> Result<Option<State<'a>>, NoMemory>
-        requires { ValidRegistry self.now.registry.now }
-        ensures { IfOk result (λ next. maybe_state_seen next ≡ exprs.whole_read (ways self.now) tag.entry.at tag.entry.name.now (place_seen place)
-            (machine.whole_test ((ways self.now).tag_tests tag.entry.name.now) (test_state_seen test.entry))) }
-    {
-        let names = Names {
-            registry: self.registry,
-            tag: Some(tag.name),
-            bare: None,
-        };
-        match whole_test(self.alloc, &names, test)? {
-            None => Ok(None),
-            Some(test) => Ok(Some(State::AtomRead {
-                atom: self.whole_tag(tag, test),
-                place,
-            })),
-        }
-    }
-
-    /// The next token of a tag with a test.
-    #[tactic(auto, unfolding(crate::specs::Exprs::tag_step))]
+    /// The next token of a tag behind its name and some of its test.
+    #[tactic(auto, unfolding(mt_query_laws::specs::Exprs::tag_step, mt_query_laws::specs::Exprs::begin_read, mt_query_laws::specs::Exprs::whole_read))]
     pub fn tag_step(
         &self,
+        state: &mut State<'a>,
         tag: TagName<'a>,
-        test: TestState<'a>,
-        place: Place,
         token: Token<'a>,
-    ) -> Result<Option<State<'a>>, NoMemory>
+    ) -> Result<bool, NoMemory>
         requires { ValidRegistry self.now.registry.now }
-        ensures { IfOk result (λ next. maybe_state_seen next
-            ≡ exprs.tag_step (ways self.now) tag.entry.at tag.entry.name.now (test_state_seen test.entry) (place_seen place) (token_seen token.entry)) }
+        ensures { IfOk result (λ goes. next goes state.new
+            ≡ exprs.tag_step (ways self.now) tag.entry.at tag.entry.name.now (tests_seen state.old.tests) (place_of state.old) (token_seen token.entry)) }
     {
         match token {
-            Token::Mark(Sign::TagEnd) => self.begin_read(tag, test, place),
-            Token::Mark(Sign::WholeEnd) => self.whole_read(tag, test, place),
-            token => self.in_tag(tag, test, place, token),
+            Token::Mark(Sign::TagEnd) => match self.tag_test(state, tag)? {
+                None => Ok(false),
+                Some(test) => Ok(self.atom_read(state, self.begin_tag(tag, test))),
+            },
+            Token::Mark(Sign::WholeEnd) => match self.tag_test(state, tag)? {
+                None => Ok(false),
+                Some(test) => Ok(self.atom_read(state, self.whole_tag(tag, test))),
+            },
+            token => self.in_tag(state, tag, token),
         }
     }
 
-    /// The next token behind a tag's name.
-    #[tactic(auto, unfolding(crate::specs::Exprs::named_step))]
+    /// The next token behind the name of a tag.
+    #[tactic(auto, unfolding(mt_query_laws::specs::Exprs::named_step))]
     pub fn named_step(
         &self,
+        state: &mut State<'a>,
         tag: TagName<'a>,
-        place: Place,
         token: Token<'a>,
-    ) -> Result<Option<State<'a>>, NoMemory>
+    ) -> Result<bool, NoMemory>
         requires { ValidRegistry self.now.registry.now }
-        ensures { IfOk result (λ next. maybe_state_seen next ≡ exprs.named_step (ways self.now) tag.entry.at tag.entry.name.now (place_seen place) (token_seen token.entry)) }
+        ensures { IfOk result (λ goes. next goes state.new
+            ≡ exprs.named_step (ways self.now) tag.entry.at tag.entry.name.now (place_of state.old) (token_seen token.entry)) }
     {
         match token {
-            Token::Mark(Sign::TagEnd) => Ok(Some(State::AtomRead {
-                atom: self.begin_tag(tag, TestPart::one(Test::Any, None)),
-                place,
-            })),
-            Token::Mark(Sign::WholeEnd) => Ok(Some(State::AtomRead {
-                atom: self.whole_tag(tag, TestPart::one(Test::Any, None)),
-                place,
-            })),
-            token => self.in_tag(tag, test_start(self.alloc), place, token),
+            Token::Mark(Sign::TagEnd) => {
+                Ok(self.atom_read(state, self.begin_tag(tag, TestPart::none())))
+            }
+            Token::Mark(Sign::WholeEnd) => {
+                Ok(self.atom_read(state, self.whole_tag(tag, TestPart::none())))
+            }
+            token => {
+                state.tests = Tests::new(self.alloc);
+                self.in_tag(state, tag, token)
+            }
         }
     }
 
     /// The next token behind `<`.
-    #[tactic(auto, unfolding(crate::specs::Exprs::tag_opened_step))]
-    pub fn tag_opened_step(&self, place: Place, token: Token<'a>) -> Option<State<'a>>
-        ensures { maybe_state_seen result ≡ exprs.tag_opened_step (ways self.now) (place_seen place) (token_seen token.entry) }
+    #[tactic(auto, unfolding(mt_query_laws::specs::Exprs::tag_opened_step))]
+    pub fn tag_opened_step(&self, state: &mut State<'a>, token: Token<'a>) -> bool
+        ensures { next result state.new ≡ exprs.tag_opened_step (ways self.now) (place_of state.old) (token_seen token.entry) }
     {
         match token {
-            Token::Word { at, name } => Some(State::TagNamed {
-                tag: TagName { at, name },
-                place,
-            }),
-            _ => None,
+            Token::Word { at, name } => {
+                state.phase = Phase::TagNamed {
+                    tag: TagName { at, name },
+                };
+                true
+            }
+            _ => false,
         }
     }
 
     /// The next token behind `</`.
-    #[tactic(auto, unfolding(crate::specs::Exprs::closing_opened_step))]
-    pub fn closing_opened_step(&self, place: Place, token: Token<'a>) -> Option<State<'a>>
-        ensures { maybe_state_seen result ≡ exprs.closing_opened_step (ways self.now) (place_seen place) (token_seen token.entry) }
+    #[tactic(auto, unfolding(mt_query_laws::specs::Exprs::closing_opened_step))]
+    pub fn closing_opened_step(&self, state: &mut State<'a>, token: Token<'a>) -> bool
+        ensures { next result state.new ≡ exprs.closing_opened_step (ways self.now) (place_of state.old) (token_seen token.entry) }
     {
         match token {
-            Token::Word { at, name } => Some(State::ClosingNamed {
-                tag: TagName { at, name },
-                place,
-            }),
-            _ => None,
+            Token::Word { at, name } => {
+                state.phase = Phase::ClosingNamed {
+                    tag: TagName { at, name },
+                };
+                true
+            }
+            _ => false,
         }
     }
 
     /// The next token behind the name of a closing tag.
-    #[tactic(auto, unfolding(crate::specs::Exprs::closing_named_step))]
+    #[tactic(auto, unfolding(mt_query_laws::specs::Exprs::closing_named_step))]
     pub fn closing_named_step(
         &self,
+        state: &mut State<'a>,
         tag: TagName<'a>,
-        place: Place,
         token: Token<'a>,
-    ) -> Option<State<'a>>
+    ) -> bool
         requires { ValidRegistry self.now.registry.now }
-        ensures { maybe_state_seen result ≡ exprs.closing_named_step (ways self.now) tag.entry.at tag.entry.name.now (place_seen place) (token_seen token.entry) }
+        ensures { next result state.new ≡ exprs.closing_named_step (ways self.now) tag.entry.at tag.entry.name.now (place_of state.old) (token_seen token.entry) }
     {
         match token {
-            Token::Mark(Sign::TagEnd) => Some(State::AtomRead {
-                atom: self.end_tag(tag),
-                place,
-            }),
-            _ => None,
+            Token::Mark(Sign::TagEnd) => self.atom_read(state, self.end_tag(tag)),
+            _ => false,
         }
     }
 
     /// An item is read that stands so many times.
     pub fn repeated(
         &self,
-        atom: Part,
+        state: &mut State<'a>,
         least: u32,
         most: u32,
         turned: Option<u32>,
-        place: Place,
-    ) -> Result<Option<State<'a>>, NoMemory>
-        ensures { IfOk result (λ next. maybe_state_seen next
-            ≡ Some (exprs.item_read (ways self.now) (spec.repeats_part (part_seen atom) least most turned) (place_seen place))) }
+    ) -> Result<bool, NoMemory>
+        ensures { IfOk result (λ goes. next goes state.new
+            ≡ Some (exprs.item_read (ways self.now) (spec.repeats_part (part_seen state.old.part) least most turned) (place_of state.old))) }
     {
+        let atom = mem::replace(&mut state.part, Part::none());
         let item = Part::repeated(self.alloc, atom, least, most, turned)?;
-        self.item_read(item, place)
+        self.item_read(state, item)
     }
 
     /// The next token inside `{` and `}`.
-    #[tactic(auto, unfolding(crate::specs::Exprs::repeat_step))]
+    #[tactic(auto, unfolding(mt_query_laws::specs::Exprs::repeat_step))]
     pub fn repeat_step(
         &self,
-        atom: Part,
+        state: &mut State<'a>,
         at: u32,
         counting: Counting,
-        place: Place,
         token: Token<'a>,
-    ) -> Result<Option<State<'a>>, NoMemory>
-        ensures { IfOk result (λ next. maybe_state_seen next
-            ≡ exprs.repeat_step (ways self.now) (part_seen atom) at (counting_seen counting) (place_seen place) (token_seen token.entry)) }
+    ) -> Result<bool, NoMemory>
+        ensures { IfOk result (λ goes. next goes state.new
+            ≡ exprs.repeat_step (ways self.now) (part_seen state.old.part) at (counting_seen counting) (place_of state.old) (token_seen token.entry)) }
     {
         let counting = match (counting, token) {
             (Counting::Opened, Token::Number { at: n_at, value: n }) => Counting::Least { n_at, n },
             (Counting::Least { n_at: _, n }, Token::Mark(Sign::CloseCurly)) => {
-                return self.repeated(atom, n, n, None, place);
+                return self.repeated(state, n, n, None);
             }
             (Counting::Least { n_at, n }, Token::Mark(Sign::Comma)) => Counting::LeastComma {
                 n_at,
                 n,
             },
             (Counting::LeastComma { n_at: _, n }, Token::Mark(Sign::CloseCurly)) => {
-                return self.repeated(atom, n, n.max(100), None, place);
+                return self.repeated(state, n, n.max(100), None);
             }
             (Counting::LeastComma { n_at, n }, Token::Number { at: m_at, value: m }) =>
                 Counting::Most { n_at, n, m_at, m },
@@ -289,19 +263,11 @@ impl<'a> Reader<'a> {
                 Token::Mark(Sign::CloseCurly),
             ) => {
                 let turned = if m < n { Some(at) } else { None };
-                return self.repeated(atom, n, m, turned, place);
+                return self.repeated(state, n, m, turned);
             }
-            _ => {
-                drop(atom);
-                drop(place);
-                return Ok(None);
-            }
+            _ => return Ok(false),
         };
-        Ok(Some(State::InRepeat {
-            atom,
-            at,
-            counting,
-            place,
-        }))
+        state.phase = Phase::InRepeat { at, counting };
+        Ok(true)
     }
 }

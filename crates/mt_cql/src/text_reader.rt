@@ -1,24 +1,29 @@
 //! Reading a query from its text.
 
-ghost use Rattle.std.specs.Prelude.{◌≡◌, ◌+◌, ◌≤◌, ◌<◌, Bool, true, false, Err, length, drop, slice_index};
+ghost use Rattle.std.specs.Prelude.{◌≡◌, ◌+◌, ◌≤◌, ◌<◌, Bool, true, false, Err, IfOk, length, drop, slice_index};
 ghost use Rattle.mt_text_spec.specs.Registries.{ValidRegistry};
 ghost use Rattle.mt_query_spec.specs.Tokens as tokens;
 ghost use Rattle.mt_query_spec.specs.Verdicts as verdicts;
-ghost use Rattle.mt_cql.specs.Exprs as exprs;
-ghost use Rattle.mt_cql.specs.Reading.{read};
+ghost use Rattle.mt_query_spec.specs.Valid.{ValidQuery};
+ghost use Rattle.mt_query_laws.specs.Exprs as exprs;
+ghost use Rattle.mt_query_laws.specs.Reading.{read};
 ghost use Rattle.mt_cql.specs.Answered.{Answered};
-ghost use Rattle.mt_cql.specs.Shape.{Said};
+ghost use Rattle.mt_cql.specs.Shape.{Said, query_seen};
 ghost use Rattle.mt_cql.specs.StateSeen.{ways, state_seen};
 ghost use Rattle.mt_cql.specs.Seen.{unlexed_seen};
 ghost use Rattle.mt_cql.specs.TextSeen.{NextSeen, IsBehind, nesting_seen};
 
+use super::conds::no_conds;
 use super::lexer::{byte_at, is_blank, lexeme, text_behind};
+use super::parts::{FiltersPart, Part};
 use super::query::{Cause, Query, QueryError};
 use super::reader::Reader;
 use super::stack::Stack;
-use super::state::{Around, Group, Place, State};
+use super::state::{Group, Phase, State};
+use super::tests::Tests;
 use super::token::{Token, Unlexed};
 use mt_base::Registry;
+use mt_query_laws::{answer_is_meant, read_is_valid};
 use std::alloc::Global;
 
 /// How deep a text nests up to a place: how many `(` are open there, how many were at most, whether a string stands there, and in it a backslash before.
@@ -163,17 +168,16 @@ impl<'a> Reader<'a> {
     fn start(&self) -> State<'a>
         ensures { state_seen result ≡ exprs.start (ways self.now) }
     {
-        State::Wanted {
-            place: Place {
-                before: Group {
-                    sequence: None,
-                    branches: None,
-                },
-                around: Around {
-                    groups: Stack::new(self.alloc),
-                    heads: Stack::new(self.alloc),
-                },
-            },
+        State {
+            phase: Phase::Wanted,
+            tests: Tests::new(self.alloc),
+            part: Part::none(),
+            before: Group::none(),
+            groups: Stack::new(self.alloc),
+            heads: Stack::new(self.alloc),
+            has_filters: false,
+            filters: FiltersPart::none(self.alloc),
+            conds: no_conds(self.alloc),
         }
     }
 
@@ -189,25 +193,21 @@ impl<'a> Reader<'a> {
         loop {
             match next_token(at, rest) {
                 Next::End => return self.finish(state, text.len() as u32),
-                Next::Bad { at, why } => {
-                    drop(state);
-                    return Err(unlexed(at, why));
-                }
+                Next::Bad { at, why } => return Err(unlexed(at, why)),
                 Next::Token {
                     at: place,
                     token,
                     end,
                     rest: behind,
-                } => match self.step(state, token) {
+                } => match self.step(&mut state, token) {
                     Err(_) => return Err(QueryError::NoMemory),
-                    Ok(None) => {
-                        return Err(QueryError::Syntax {
-                            at: place,
-                            cause: Cause::Token,
-                        });
-                    }
-                    Ok(Some(next)) => {
-                        state = next;
+                    Ok(goes) => {
+                        if !goes {
+                            return Err(QueryError::Syntax {
+                                at: place,
+                                cause: Cause::Token,
+                            });
+                        }
                         at = end;
                         rest = behind;
                     }
@@ -218,7 +218,7 @@ impl<'a> Reader<'a> {
 }
 
 /// Reads a query under a registry, in which a bare string is a pattern for the attribute of the number `default`.
-#[tactic(auto, unfolding(crate::specs::Reading::answer))]
+#[tactic(auto, unfolding(mt_query_laws::specs::Reading::answer))]
 pub fn parse(
     alloc: Global,
     text: &str,
@@ -226,7 +226,8 @@ pub fn parse(
     default: u16,
 ) -> Result<Query, QueryError>
     requires { ValidRegistry registry.now }
-    ensures { Answered registry.now default text.now result }
+    ensures means { Answered registry.now default text.now result }
+    ensures valid { default < length registry.now.attrs → IfOk result (λ query. ValidQuery registry.now (query_seen query)) }
 {
     if is_too_long(text) {
         return Err(QueryError::TooLarge);
@@ -236,5 +237,7 @@ pub fn parse(
         registry,
         default,
     };
+    answer_is_meant();
+    read_is_valid();
     reader.read(text)
 }

@@ -1,7 +1,7 @@
 //! The tokens of a query's text.
 
 /// A sign, but for `{`.
-#[derive(Clone, Copy, Debug, PartialEq, Eq, Drop)]
+#[derive(Clone, Copy, Drop)]
 pub enum Sign {
     /// `!==`
     Differs,
@@ -50,7 +50,7 @@ pub enum Sign {
 }
 
 /// A token. What a refusal may name later knows its place.
-#[derive(Clone, Copy, Debug, Drop)]
+#[derive(Clone, Copy, Drop)]
 pub enum Token<'a> {
     /// A string, by what stands between its quotes.
     Quoted(&'a str),
@@ -61,7 +61,7 @@ pub enum Token<'a> {
 }
 
 /// Why no token begins at a place.
-#[derive(Clone, Copy, Debug, PartialEq, Eq, Drop)]
+#[derive(Clone, Copy, Drop)]
 pub enum Unlexed {
     /// No token begins so.
     NoToken,

@@ -5,3 +5,4 @@ pub mod Meaning
 pub mod Verdicts
 pub mod Printed
 pub mod Valid
+pub mod Contents

@@ -1,9 +1,9 @@
 use Rattle.std.proofs.Common.{arith, sym, ◌∙◌, ap, subst, Err, length}
 use Rattle.mt_query_spec.specs.Tokens.{tokens_of, tokens_from}
-use Rattle.mt_cql.specs.Reading.{read}
+use Rattle.mt_query_laws.specs.Reading.{read}
 use Rattle.mt_cql.specs.Shape.{Said}
 use Rattle.mt_cql.specs.Seen.{token_seen, unlexed_seen}
-use Rattle.mt_cql.specs.StateSeen.{state_seen, maybe_state_seen}
+use Rattle.mt_cql.specs.StateSeen.{state_seen, next}
 use Rattle.mt_cql.proofs.TextLaws.{begins, ended, stopped, stuck_at, stepped}
 use Rattle.mt_cql.proofs.reader.Reader.read.Goals as goal
 
@@ -29,19 +29,19 @@ returns-in-Bad c =
     (read c.args.self.now.registry.now c.args.self.now.default (tokens_of c.args.text.now) (length c.args.text.now)) c.in-Bad.ensures.next c.loop-state.invariant.1))
     c.unlexed.ensures
 
-pub returns-in-Ok-None : goal.returns-in-Ok-None
-returns-in-Ok-None c =
+pub returns-then-not-goes : goal.returns-then-not-goes
+returns-then-not-goes c =
     stuck_at c.args.self.now.registry.now c.args.self.now.default (state_seen c.loop-state.state) (tokens_from c.loop-state.at 0 c.loop-state.rest.now)
     (tokens_from c.in-Token.end 0 c.in-Token.behind.now) (length c.args.text.now) c.in-Token.place (token_seen c.in-Token.token)
     (read c.args.self.now.registry.now c.args.self.now.default (tokens_of c.args.text.now) (length c.args.text.now)) c.in-Token.ensures.next
-    (sym c.in-Ok-None.ensures ∙ ap maybe_state_seen c.in-Ok-None.field-0-is) c.loop-state.invariant.1
+    (sym c.in-Ok.ensures ∙ ap (λ goes. next goes c.step.new.state) c.if-not-goes.true) c.loop-state.invariant.1
 
 pub loop-state-preserved : goal.loop-state-preserved
 loop-state-preserved c = (
   c.in-Token.ensures.place.2,
-  stepped c.args.self.now.registry.now c.args.self.now.default (state_seen c.loop-state.state) (state_seen c.in-Ok-Some.next) (tokens_from c.loop-state.at 0 c.loop-state.rest.now)
+  stepped c.args.self.now.registry.now c.args.self.now.default (state_seen c.loop-state.state) (state_seen c.step.new.state) (tokens_from c.loop-state.at 0 c.loop-state.rest.now)
       (tokens_from c.in-Token.end 0 c.in-Token.behind.now) (length c.args.text.now) c.in-Token.place (token_seen c.in-Token.token)
       (read c.args.self.now.registry.now c.args.self.now.default (tokens_of c.args.text.now) (length c.args.text.now)) c.in-Token.ensures.next
-      (sym c.in-Ok-Some.ensures ∙ ap maybe_state_seen c.in-Ok-Some.field-0-is) c.loop-state.invariant.1,
+      (sym c.in-Ok.ensures ∙ ap (λ goes. next goes c.step.new.state) c.if-not-goes.false) c.loop-state.invariant.1,
   c.in-Token.ensures.place.0 ∙ c.loop-state.invariant.2,
 )

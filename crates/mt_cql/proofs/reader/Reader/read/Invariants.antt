@@ -2,7 +2,7 @@ use Rattle.std.proofs.Common.{◌≡◌, ◌+◌, length}
 use denote.Text.{Utf8}
 use denote.Shadow.{shadow}
 use Rattle.mt_query_spec.specs.Tokens.{tokens_of, tokens_from}
-use Rattle.mt_cql.specs.Reading.{read}
+use Rattle.mt_query_laws.specs.Reading.{read}
 use Rattle.mt_cql.specs.StateSeen.{state_seen}
 use Rattle.mt_cql.proofs.TextLaws.{goes}
 use Rattle.mt_cql.proofs.reader.Reader.read.Given as goal

@@ -1,6 +1,0 @@
-use Rattle.mt_cql.proofs.PrintedQueries.{printed_read}
-use Rattle.mt_cql.proofs.PrintedDepth.{read_valid}
-use Rattle.mt_cql.proofs.laws.valid_where_read.Goals as goal
-
-pub returns : goal.returns
-returns c = record { read = printed_read; valid = read_valid }

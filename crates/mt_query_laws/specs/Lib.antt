@@ -1,0 +1,4 @@
+pub mod Machine
+pub mod Exprs
+pub mod Parts
+pub mod Reading
