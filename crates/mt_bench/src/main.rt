@@ -2,7 +2,8 @@
 //! library.
 //!
 //! Without a word it measures nothing, so that what it prints is the same at every run. With the word `text` it reads a text, and with `segment` it builds
-//! its segment too, so that the memory which that takes can be measured from outside.
+//! its segment too; so it does with `wide-text` and `wide-segment` for one of distinct words; with `small-segments` it builds many segments of a short text. So
+//! the memory which that takes can be measured from outside.
 #![tactic(auto)]
 
 mod lexicons;
@@ -25,10 +26,11 @@ fn main(rt: HostRuntime) -> io::Result<()> {
     let Some(asked) = env::args(&rt)?.nth(1) else {
         return println!(rt; "mt_bench all: measures the crates");
     };
-    match asked.as_str() {
-        "text" => return take_memory(&rt, false),
-        "segment" => return take_memory(&rt, true),
-        _ => {}
+    if let Some(taken) = taken(rt.alloc(), asked.as_str()) {
+        return match taken {
+            Ok(answer) => println!(rt; "{answer}"),
+            Err(NoMemory) => println!(rt; "memory was wanted"),
+        };
     }
     println!(rt; "workload / plain loop: the best times in nanoseconds, and their ratio")?;
     match work::Input::new(rt.alloc()) {
@@ -39,10 +41,7 @@ fn main(rt: HostRuntime) -> io::Result<()> {
         Ok(input) => measure_lexicons(&rt, &input)?,
         Err(NoMemory) => println!(rt; "memory was wanted")?,
     }
-    match segments::Input::new(rt.alloc()) {
-        Ok(input) => measure_segments(&rt, &input)?,
-        Err(NoMemory) => println!(rt; "memory was wanted")?,
-    }
+    measure_segments(&rt)?;
     match patterns::Input::new(rt.alloc()) {
         Ok(input) => measure_patterns(&rt, &input)?,
         Err(NoMemory) => println!(rt; "memory was wanted")?,
@@ -141,32 +140,58 @@ fn measure_queries(rt: &HostRuntime, input: &queries::Input) -> io::Result<()> {
     )
 }
 
+/// Measures building segments beside reading their texts.
+fn measure_segments(rt: &HostRuntime) -> io::Result<()> {
+    let alloc = rt.alloc();
+    match segments::Input::new(alloc) {
+        Ok(input) => measure_segment(rt, "build a segment / read its text", &input)?,
+        Err(NoMemory) => println!(rt; "memory was wanted")?,
+    }
+    match segments::Input::wide(alloc) {
+        Ok(input) => measure_segment(rt, "build a wide segment / read its text", &input)?,
+        Err(NoMemory) => println!(rt; "memory was wanted")?,
+    }
+    match segments::Input::short(alloc) {
+        Ok(input) => compare(
+            rt,
+            "build 20,000 small segments / read a text",
+            || segments::build_many(alloc, &input),
+            || segments::read(alloc, &input),
+        ),
+        Err(NoMemory) => println!(rt; "memory was wanted"),
+    }
+}
+
 /// Measures building a segment beside reading its text.
-fn measure_segments(rt: &HostRuntime, input: &segments::Input) -> io::Result<()> {
+fn measure_segment(rt: &HostRuntime, name: &str, input: &segments::Input) -> io::Result<()> {
     let alloc = rt.alloc();
     compare(
         rt,
-        "build a segment / read its text",
+        name,
         || segments::build(alloc, input),
         || segments::read(alloc, input),
     )
 }
 
-/// Reads a text, and reads it again or builds its segment, so that the memory that this takes can be measured from outside.
-fn take_memory(rt: &HostRuntime, is_built: bool) -> io::Result<()> {
-    match taken(rt.alloc(), is_built) {
-        Ok(tokens) => println!(rt; "{tokens} tokens"),
-        Err(NoMemory) => println!(rt; "memory was wanted"),
+/// Reads a text, and builds its segment or many where the word says so, or answers `None` where it is another word.
+fn taken(alloc: Global, asked: &str) -> Option<Result<u64, NoMemory>> {
+    match asked {
+        "text" => Some(segments::Input::new(alloc).map(|_| 0)),
+        "wide-text" => Some(segments::Input::wide(alloc).map(|_| 0)),
+        "segment" => Some(built(alloc, segments::Input::new(alloc))),
+        "wide-segment" => Some(built(alloc, segments::Input::wide(alloc))),
+        "small-segments" => Some(built_many(alloc)),
+        _ => None,
     }
 }
 
-fn taken(alloc: Global, is_built: bool) -> Result<u64, NoMemory> {
-    let input = segments::Input::new(alloc)?;
-    if is_built {
-        segments::build(alloc, &input)
-    } else {
-        Ok(0)
-    }
+fn built(alloc: Global, input: Result<segments::Input, NoMemory>) -> Result<u64, NoMemory> {
+    segments::build(alloc, &input?)
+}
+
+fn built_many(alloc: Global) -> Result<u64, NoMemory> {
+    let input = segments::Input::short(alloc)?;
+    segments::build_many(alloc, &input)
 }
 
 /// Measures the script reader over a text of 192 MiB, and of half of it.

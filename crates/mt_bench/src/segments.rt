@@ -1,4 +1,5 @@
-//! The workloads of segments: a text of one million tokens with three base attributes and one mapped one.
+//! The workloads of segments: texts of three base attributes and one mapped one. One has a million tokens by Zipf's law, one a million distinct words, and
+//! one ten tokens.
 
 ghost use Rattle.std.specs.Prelude.{IfOk};
 ghost use Rattle.mt_text_spec.specs.Registries.{ValidRegistry};
@@ -6,13 +7,20 @@ ghost use Rattle.mt_text_spec.specs.Texts.{ValidText};
 
 use mt_base::{List, NoMemory, Registry, Text, Value};
 use mt_mapper::{Fold, Mapper};
+use mt_registry::read_registry;
 use mt_segment::{Segment, has_mappers};
-use mt_vertical::{read_registry, read_text};
+use mt_vertical::read_text;
 use std::alloc::Global;
 use std::marker::Model;
 
-/// So many tokens has the text.
+/// So many tokens has a long text.
 const TOKENS: u32 = 1_000_000;
+
+/// And a short one.
+const FEW_TOKENS: u32 = 10;
+
+/// So many segments of a short text are kept.
+const SEGMENTS: u32 = 20_000;
 
 /// At most so many words are in it.
 const WORDS: u64 = 50_000;
@@ -41,9 +49,22 @@ impl Model for Input {
 }
 
 impl Input {
-    /// The same input at every run.
+    /// A long text, the same at every run.
     pub fn new(alloc: Global) -> Result<Self, NoMemory> {
-        let vertical = vertical(alloc)?;
+        Input::of(alloc, vertical(alloc, TOKENS, false)?)
+    }
+
+    /// A long text of distinct words.
+    pub fn wide(alloc: Global) -> Result<Self, NoMemory> {
+        Input::of(alloc, vertical(alloc, TOKENS, true)?)
+    }
+
+    /// A short text.
+    pub fn short(alloc: Global) -> Result<Self, NoMemory> {
+        Input::of(alloc, vertical(alloc, FEW_TOKENS, false)?)
+    }
+
+    fn of(alloc: Global, vertical: String) -> Result<Self, NoMemory> {
         let registry = registry(alloc)?;
         let mut texts = Vec::new(alloc);
         texts.push(text(alloc, vertical.as_bytes(), &registry)?)?;
@@ -67,20 +88,22 @@ fn text(alloc: Global, vertical: &[u8], registry: &Registry) -> Result<Text, NoM
     requires { ValidRegistry registry.now }
     ensures { IfOk result (ValidText registry.now) }
 {
-    read_text(alloc, "a", vertical, registry).map_err(|_| NoMemory)
+    let name = Value::new(alloc, "a")?;
+    read_text(alloc, name, vertical, registry).map_err(|_| NoMemory)
 }
 
-/// A vertical of three columns with sentences of 20 tokens. A word is the rarer the greater its number is, by Zipf's law.
-fn vertical(alloc: Global) -> Result<String, NoMemory> {
+/// A vertical of three columns with sentences of 20 tokens. A word is the rarer the greater its number is, by Zipf's law, or each is another one.
+fn vertical(alloc: Global, tokens: u32, is_wide: bool) -> Result<String, NoMemory> {
     let tags = ["N", "V", "J", "D", "P", "R"];
     let mut vertical = String::new(alloc);
     let mut x = 1u64;
-    for place in 0..TOKENS {
+    for place in 0..tokens {
         x = x
             .wrapping_mul(6_364_136_223_846_793_005)
             .wrapping_add(1_442_695_040_888_963_407);
         let least = 1u64 << (x >> 60);
-        let number = (least + (x >> 20) % least) % WORDS;
+        let drawn = (least + (x >> 20) % least) % WORDS;
+        let number = if is_wide { u64::from(place) } else { drawn };
         let tag = tags[number as usize % tags.len()];
         let end = if number % 3 == 0 { "s" } else { "" };
         if place % 20 == 0 {
@@ -101,13 +124,28 @@ pub fn read(alloc: Global, input: &Input) -> Result<u64, NoMemory> {
 pub fn build(alloc: Global, input: &Input) -> Result<u64, NoMemory> {
     let mut mappers = Vec::new(alloc);
     mappers.push(Fold::new(alloc)?)?;
-    build_by(alloc, input, mappers.as_mut_slice())
+    let segment = build_by(alloc, input, mappers.as_mut_slice())?;
+    Ok(u64::from(segment.tokens()))
 }
 
-fn build_by<M: Mapper>(alloc: Global, input: &Input, mappers: &mut [M]) -> Result<u64, NoMemory> {
+/// Builds the segment of the text again and again, and keeps all of them.
+pub fn build_many(alloc: Global, input: &Input) -> Result<u64, NoMemory> {
+    let mut mappers = Vec::new(alloc);
+    mappers.push(Fold::new(alloc)?)?;
+    let mut kept = Vec::with_capacity(alloc, SEGMENTS as usize)?;
+    for _ in 0..SEGMENTS {
+        kept.push(build_by(alloc, input, mappers.as_mut_slice())?)?;
+    }
+    Ok(kept.len() as u64)
+}
+
+fn build_by<M: Mapper>(
+    alloc: Global,
+    input: &Input,
+    mappers: &mut [M],
+) -> Result<Segment, NoMemory> {
     if input.texts.is_empty() || !has_mappers(&input.registry, mappers) {
         return Err(NoMemory);
     }
-    let segment = Segment::build(alloc, input.texts.as_slice(), &input.registry, mappers)?;
-    Ok(u64::from(segment.tokens()))
+    Segment::build(alloc, input.texts.as_slice(), &input.registry, mappers)
 }

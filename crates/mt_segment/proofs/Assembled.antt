@@ -1,22 +1,22 @@
 -- The tables of all attributes together, and what is beside them.
-use Rattle.std.proofs.Common.{◌≡◌, ℕ, ◌+◌, ◌<◌, ◌≤◌, Bool, true, false, List, [], ◌∷◌, ◌++◌, length, length-append, map, take, get_or, set, sum, Option, None, Some, refl, sym, ◌∙◌, ap, ap₂, subst, arith, ◌⊎◌, inl, inr}
+use Rattle.std.proofs.Common.{◌≡◌, ℕ, ◌+◌, ◌*◌, ◌<◌, ◌≤◌, Bool, true, false, List, [], ◌∷◌, ◌++◌, length, length-append, map, take, get_or, set, sum, Option, None, Some, refl, sym, ◌∙◌, ap, ap₂, subst, arith, ◌⊎◌, inl, inr}
 use Rattle.std.specs.List.{All}
 use Rattle.std.proofs.lemmas.Bool.{cases_lt}
-use Rattle.std.proofs.lemmas.List.{length-set, get_or-set_same, get_or-set_other, get_or_append_left, get_or_push, get_or_default}
+use Rattle.std.proofs.lemmas.List.{length-map, length-set, get_or-set_same, get_or-set_other, get_or_append_left, get_or_push, get_or_default}
 use Rattle.std.proofs.lemmas.List.Sums.{sum-map, sum_by_more, sum_by_more_le, count_by_more_yes, count_by_more_no}
 use Rattle.std.proofs.lemmas.Option.{slice_get_within, get_or_from_slice_get}
 use mir.Val.{bool_byte}
 use Rattle.mt_text_spec.specs.Registries.{Registry, Attr, ValidRegistry, ValidAttr, IsBaseAt, base_attr, column_of, is_base}
-use Rattle.mt_text_spec.specs.Texts.{Text, total_tokens, corpus_tokens_limit}
+use Rattle.mt_text_spec.specs.Texts.{StructSpan, Text, total_tokens, corpus_tokens_limit}
 use Rattle.mt_lexicon.proofs.Renumbered.{numbers_within}
-use Rattle.mt_mapper.specs.Calls.{counted}
-use Rattle.mt_mapper.proofs.Counts.{counted_more}
-use Rattle.mt_segment_spec.specs.Tables.{AttrTables, Instance, AreAttrTables, AreTablesOf, attr_at, attr_values, base_values, column_values, heads_of, made_of, tables_at}
-use Rattle.mt_segment.specs.Building.{AreAllMapped, AreBaseTables, AreInstances, AreUsable, HasBase, IsMappedAt, attr_of}
+use Rattle.mt_segment_spec.specs.Tables.{AttrTables, AreBaseTables, AreMappedTables, AreTablesOf, attr_at, attr_values, column_values, heads_of, tables_at}
+use Rattle.mt_segment_laws.proofs.Values.{length-column_values, mapped_values, own_values}
+use Rattle.mt_segment.specs.Building.{AreAllMapped, AreInstances, AreUsable, HasBase, HaveBases, IsMappedAt, attr_of}
 use Rattle.mt_segment.specs.Ends.{AreFirstEnds}
-use Rattle.mt_segment.specs.Mappers.{AreCounted, AreCountedAtMost, AreMapped, calls_due, calls_of}
+use Rattle.mt_segment.specs.Lists.{groups}
+use Rattle.mt_segment.specs.Mappers.{AreMapped}
+use Rattle.mt_segment.proofs.Blocks.{length-groups}
 use Rattle.mt_segment.proofs.Mappings.{mapped_made}
-use Rattle.mt_segment.proofs.Valued.{length-column_values}
 
 -- ---- where texts end
 
@@ -62,28 +62,28 @@ column_next attrs i column attr base l is e test = by base test
     by true t = omega (arith, e, count_by_more_yes is_base attrs i attr l (here ∙ sym t))
     by false t = omega (arith, e, count_by_more_no is_base attrs i attr l (here ∙ sym t))
 
-pub base_more : (attrs : List Attr) (corpus : List Text) (tables : List AttrTables) (i column : ℕ) (attr : Attr) (made : AttrTables) → AreBaseTables attrs corpus tables i → i < length attrs → attr ≡ get_or attrs i attr →
-    column ≡ column_of attrs i → (attr.base ≡ None → AreAttrTables None (column_values column corpus) (column_values column corpus) made) → AreBaseTables attrs corpus (tables ++ made ∷ []) (i + 1)
+pub base_more : (attrs : List Attr) (corpus : List Text) (tables : List AttrTables) (i column : ℕ) (attr : Attr) (made : AttrTables) → HaveBases attrs corpus tables i → i < length attrs → attr ≡ get_or attrs i attr →
+    column ≡ column_of attrs i → (attr.base ≡ None → AreBaseTables (column_values column corpus) made) → HaveBases attrs corpus (tables ++ made ∷ []) (i + 1)
 base_more attrs corpus tables i column attr made h l is e its = record {
   count = length-append tables (made ∷ []) ∙ ap (λ (n : ℕ). n + 1) h.count;
   at = λ k m base. by k (cases_lt k i) m base;
 }
   where
     by : (k : ℕ) → (k < i) ⊎ (i ≤ k) → k < i + 1 → (attr_of attrs k).base ≡ None →
-        AreAttrTables None (column_values (column_of attrs k) corpus) (column_values (column_of attrs k) corpus) (tables_at (tables ++ made ∷ []) k)
+        AreBaseTables (column_values (column_of attrs k) corpus) (tables_at (tables ++ made ∷ []) k)
     by k (inl low) m base = rw (get_or_append_left tables (made ∷ []) (tables_at [] 0) k (omega (arith, h.count))) (h.at k low base)
     by k (inr high) m base =
         let same : i ≡ k = omega arith in
         let none : attr.base ≡ None = ap (λ (a : Attr). a.base) (sym (read_attr attrs i attr l is)) ∙ ap (λ (n : ℕ). (attr_of attrs n).base) same ∙ base in
-        subst (λ (n : ℕ). AreAttrTables None (column_values (column_of attrs n) corpus) (column_values (column_of attrs n) corpus) (tables_at (tables ++ made ∷ []) n)) same
-        (rw (get_or_push tables made (tables_at [] 0) i h.count) (subst (λ (n : ℕ). AreAttrTables None (column_values n corpus) (column_values n corpus) made) e (its none)))
+        subst (λ (n : ℕ). AreBaseTables (column_values (column_of attrs n) corpus) (tables_at (tables ++ made ∷ []) n)) same
+        (rw (get_or_push tables made (tables_at [] 0) i h.count) (subst (λ (n : ℕ). AreBaseTables (column_values n corpus) made) e (its none)))
 
 -- ---- mapped attributes
 
 module _ (images : List ℕ → List ℕ → List ℕ) (attrs : List Attr) (old now : List AttrTables) (number : ℕ) (attr : Attr) (h : AreAllMapped images attrs old now number) (l : number < length attrs)
     (count : length old ≡ length attrs) (is : attr ≡ get_or attrs number attr) (bases : All (HasBase attrs old) attrs) where
-  based : HasBase attrs old attr
-  based = rw (sym is) at (bases number attr l)
+  pub based_on : HasBase attrs old attr
+  based_on = rw (sym is) at (bases number attr l)
 
   its_base : attr_of attrs number ≡ attr
   its_base = read_attr attrs number attr l is
@@ -128,7 +128,7 @@ module _ (images : List ℕ → List ℕ → List ℕ) (attrs : List Attr) (old 
           let there : Some base ≡ Some under = sym its ∙ ap (λ (n : ℕ). (attr_of attrs n).base) same ∙ it in
           let one : base ≡ under = cc in
           let within : number < length now = omega (arith, h.count, count) in
-          let before : tables_at now base ≡ tables_at old base = h.kept base (based.is_base base some) in
+          let before : tables_at now base ≡ tables_at old base = h.kept base (based_on.is_base base some) in
           subst (λ (n : ℕ). AreMapped under (images (attr_of attrs n).mapper) (tables_at old under) (tables_at (set now number made) n)) same
           (rw (get_or-set_same now number made (tables_at [] 0) within, its_base)
           (subst (λ (n : ℕ). AreMapped n (images attr.mapper) (tables_at old n) made) one (subst (λ (t : AttrTables). AreMapped base (images attr.mapper) t made) before right)))
@@ -140,47 +140,12 @@ module _ (images : List ℕ → List ℕ → List ℕ) (attrs : List Attr) (old 
       by None e step = unmapped_more new step e
       by (Some base) e (made, is_set, right) = mapped_more new base made e is_set right
 
-  calls_same : (names : List (List ℕ)) (mapper : ℕ) → calls_of names now mapper attr.mapper attr.base ≡ calls_of names old mapper attr.mapper attr.base
-  calls_same names mapper = by attr.base refl
-    where
-      by : (base : Option ℕ) → attr.base ≡ base → calls_of names now mapper attr.mapper base ≡ calls_of names old mapper attr.mapper base
-      by None e = refl
-      by (Some base) e = rw (h.kept base (based.is_base base e)) refl
-
-  pub calls_more : (names : List (List ℕ)) (first before after : List ℕ) → AreCounted (calls_due names old (take number attrs)) first before → AreCounted (λ m. calls_of names now m attr.mapper attr.base) before after →
-      AreCounted (calls_due names old (take (number + 1) attrs)) first after
-  calls_more names first before after g f = record {
-    count = f.count ∙ g.count;
-    at = λ m low.
-        let due : calls_due names old (take (number + 1) attrs) m ≡ calls_due names old (take number attrs) m + calls_of names now m attr.mapper attr.base =
-        sum-map (λ (a : Attr). calls_of names old m a.mapper a.base) (take (number + 1) attrs) ∙ sum_by_more (λ (a : Attr). calls_of names old m a.mapper a.base) attrs number attr l
-        ∙ ap₂ ◌+◌ (sym (sum-map (λ (a : Attr). calls_of names old m a.mapper a.base) (take number attrs))) (ap (λ (a : Attr). calls_of names old m a.mapper a.base) (sym is) ∙ sym (calls_same names m)) in
-        f.at m (omega (arith, g.count)) ∙ ap (λ (n : ℕ). counted n (calls_of names now m attr.mapper attr.base)) (g.at m low)
-        ∙ counted_more (get_or first m 0) (calls_due names old (take number attrs) m) (calls_of names now m attr.mapper attr.base) ∙ ap (counted (get_or first m 0)) (sym due);
-  }
-
-  -- where memory is wanted while this attribute is mapped
-  pub calls_part : (names : List (List ℕ)) (first before after : List ℕ) → AreCounted (calls_due names old (take number attrs)) first before → AreCountedAtMost (λ m. calls_of names now m attr.mapper attr.base) before after →
-      AreCountedAtMost (calls_due names old attrs) first after
-  calls_part names first before after g f = record {
-    count = f.count ∙ g.count;
-    at = λ m low.
-        let calls : Attr → ℕ = λ a. calls_of names old m a.mapper a.base in
-        let part = f.at m (omega (arith, g.count)) in
-        let here : calls_of names now m attr.mapper attr.base ≡ calls (get_or attrs number attr) = calls_same names m ∙ ap calls is in
-        record {
-          more = calls_due names old (take number attrs) m + part.more;
-          few = omega (arith, part.few, here, sum-map calls (take number attrs), sum-map calls attrs, sum_by_more_le calls attrs number attr l);
-          are = part.are ∙ ap (λ (n : ℕ). counted n part.more) (g.at m low) ∙ counted_more (get_or first m 0) (calls_due names old (take number attrs) m) part.more;
-        };
-  }
-
 -- ---- all tables
 
-usable_from : (values : List (List ℕ)) (tables : AttrTables) → AreAttrTables None values values tables → length values ≤ corpus_tokens_limit → AreUsable tables
+usable_from : (values : List (List ℕ)) (tables : AttrTables) → AreBaseTables values tables → length values ≤ corpus_tokens_limit → AreUsable tables
 usable_from values tables h few = record { few = omega (arith, h.numbers.count); within = numbers_within tables.numbers values tables.lexicon h.numbers }
 
-have_bases : (registry : Registry) (corpus : List Text) (tables : List AttrTables) → ValidRegistry registry → total_tokens corpus ≤ corpus_tokens_limit → AreBaseTables registry.attrs corpus tables (length registry.attrs) →
+have_bases : (registry : Registry) (corpus : List Text) (tables : List AttrTables) → ValidRegistry registry → total_tokens corpus ≤ corpus_tokens_limit → HaveBases registry.attrs corpus tables (length registry.attrs) →
     All (HasBase registry.attrs tables) registry.attrs
 have_bases registry corpus tables valid few h = λ k d l.
     let its : ValidAttr registry.attrs (get_or registry.attrs k d) = valid.attrs k d l in
@@ -200,14 +165,14 @@ have_bases registry corpus tables valid few h = λ k d l.
 
 -- the tables of the base attributes, from which those of the mapped ones can be made
 pub record AreFirst (registry : Registry) (corpus : List Text) (tables : List AttrTables) : Type 0 where
-  pub made : AreBaseTables registry.attrs corpus tables (length registry.attrs)
+  pub made : HaveBases registry.attrs corpus tables (length registry.attrs)
   pub bases : All (HasBase registry.attrs tables) registry.attrs
 
 -- where attributes and tables were read once more
 pub are_first : (registry : Registry) (corpus : List Text) (attrs : List Attr) (tables read : List AttrTables) → ValidRegistry registry → total_tokens corpus ≤ corpus_tokens_limit → attrs ≡ registry.attrs → read ≡ tables →
-    AreBaseTables attrs corpus tables (length attrs) → AreFirst registry corpus read
+    HaveBases attrs corpus tables (length attrs) → AreFirst registry corpus read
 are_first registry corpus attrs tables read valid few e f h =
-    let made : AreBaseTables registry.attrs corpus read (length registry.attrs) = rw f (subst (λ (xs : List Attr). AreBaseTables xs corpus tables (length xs)) e h) in
+    let made : HaveBases registry.attrs corpus read (length registry.attrs) = rw f (subst (λ (xs : List Attr). HaveBases xs corpus tables (length xs)) e h) in
     record { made = made; bases = have_bases registry corpus read valid few made }
 
 module _ (images : List ℕ → List ℕ → List ℕ) (registry : Registry) (corpus : List Text) (first tables : List AttrTables) (is_first : AreFirst registry corpus first)
@@ -215,34 +180,33 @@ module _ (images : List ℕ → List ℕ → List ℕ) (registry : Registry) (co
   has_base : (number : ℕ) → number < length registry.attrs → HasBase registry.attrs first (attr_at registry number)
   has_base number l = is_first.bases number (base_attr []) l
 
-  attr_made : (number : ℕ) → number < length registry.attrs →
-      AreAttrTables (attr_at registry number).base (attr_values images registry corpus number)
-      (made_of (images (attr_at registry number).mapper) (attr_values images registry corpus number) (λ base. (tables_at tables base).lexicon) (attr_at registry number).base)
-      (tables_at tables number)
-  attr_made number l = by (attr_at registry number).base refl
-    where
-      image : List ℕ → List ℕ
-      image = images (attr_at registry number).mapper
+  base_at : (number : ℕ) → number < length registry.attrs → (attr_at registry number).base ≡ None → AreBaseTables (attr_values images registry corpus number) (tables_at tables number)
+  base_at number l none = rw (own_values images registry corpus number none, mapped.kept number none) (is_first.made.at number l none)
 
-      by : (base : Option ℕ) → (attr_at registry number).base ≡ base →
-          AreAttrTables base (made_of (images (attr_at registry number).mapper) (base_values registry corpus number) (base_values registry corpus) base)
-          (made_of (images (attr_at registry number).mapper) (made_of (images (attr_at registry number).mapper) (base_values registry corpus number) (base_values registry corpus) base) (λ b. (tables_at tables b).lexicon) base)
-          (tables_at tables number)
-      by None e = rw (mapped.kept number e) (is_first.made.at number l e)
-      by (Some base) e =
-          let has = has_base number l in
-          let none = has.is_base base e in
-          let low : base < length registry.attrs = omega (arith, has.there base e, is_first.made.count) in
-          let all : AreAttrTables (Some base) (map (images (attr_at registry number).mapper) (base_values registry corpus base)) (map (images (attr_at registry number).mapper) (tables_at first base).lexicon) (tables_at tables number) =
-          mapped_made base (images (attr_at registry number).mapper) (base_values registry corpus base) (tables_at first base) (tables_at tables number) (is_first.made.at base low none) (mapped.mapped number base l e) in
-          rw (mapped.kept base none) all
+  mapped_at : (number base : ℕ) → number < length registry.attrs → (attr_at registry number).base ≡ Some base →
+      AreMappedTables base (images (attr_at registry number).mapper) (tables_at tables base).lexicon (attr_values images registry corpus number) (tables_at tables number)
+  mapped_at number base l some =
+      let has = has_base number l in
+      let none = has.is_base base some in
+      let low : base < length registry.attrs = omega (arith, has.there base some, is_first.made.count) in
+      rw (mapped_values images registry corpus number base some, mapped.kept base none)
+      (mapped_made base (images (attr_at registry number).mapper) (column_values (column_of registry.attrs base) corpus) (tables_at first base) (tables_at tables number) (is_first.made.at base low none) (mapped.mapped number base l some))
 
-  pub all_made : (heads : List (List ℕ × ℕ)) (structs : List (List Instance)) → heads ≡ heads_of corpus → AreInstances corpus structs (length registry.kinds) →
-      AreTablesOf images registry corpus (record { texts = heads; attrs = tables; structs = structs })
-  all_made heads structs e inst = record {
-    texts = e;
-    attr_count = mapped.count ∙ is_first.made.count;
-    attrs = λ number l. attr_made number l;
-    kind_count = inst.count;
-    structs = λ kind l. inst.at kind l;
-  }
+  pub all_made : (heads : List (List ℕ × ℕ)) (lists : List (List StructSpan)) → heads ≡ heads_of corpus → AreInstances corpus lists (length registry.kinds) →
+      AreTablesOf images registry corpus (record { texts = heads; attrs = tables; structs = groups (length heads) (length registry.kinds) lists })
+  all_made heads lists e inst =
+      let many : length heads ≡ length corpus = ap length e ∙ length-map corpus (λ (text : Text). (text.name, length text.tokens)) in
+      record {
+        texts = e;
+        attr_count = mapped.count ∙ is_first.made.count;
+        bases = λ number l none. base_at number l none;
+        mapped = λ number base l some. mapped_at number base l some;
+        kind_count = length-groups (length heads) (length registry.kinds) lists;
+        structs = λ kind l. rw many (inst.at kind l);
+      }
+
+-- there is a list for each kind and text
+pub many_lists : (registry : Registry) (corpus : List Text) (heads : List (List ℕ × ℕ)) (lists : List (List StructSpan)) → heads ≡ heads_of corpus → AreInstances corpus lists (length registry.kinds) → length lists ≡ length registry.kinds * length heads
+many_lists registry corpus heads lists e inst =
+    let many : length heads ≡ length corpus = ap length e ∙ length-map corpus (λ (text : Text). (text.name, length text.tokens)) in
+    inst.count ∙ ap (λ (n : ℕ). length registry.kinds * n) (sym many)

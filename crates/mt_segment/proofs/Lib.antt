@@ -1,11 +1,11 @@
 pub mod Assembled
-pub mod Determined
-pub mod Halfway
-pub mod Have
-pub mod Known
+pub mod Blocks
+pub mod Calls
+pub mod Due
+pub mod Instances
+pub mod Lookups
 pub mod Mappings
 pub mod Numbered
 pub mod Parted
 pub mod Slots
-pub mod Standing
 pub mod Valued

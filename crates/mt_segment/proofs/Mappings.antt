@@ -1,5 +1,5 @@
 -- Mappers by name, and tables that come of images.
-use Rattle.std.proofs.Common.{◌≡◌, ℕ, suc, ◌+◌, ◌<◌, ◌≤◌, ◌==◌, Bool, true, false, not, cond, List, [], ◌∷◌, ◌++◌, length, map, take, get_or, set, slice_get, None, Some, refl, sym, ◌∙◌, ap, ap₂, subst, arith, ◌⊎◌, inl, inr, if◌then◌else◌, true≢false, ◌↔◌, IsTrue}
+use Rattle.std.proofs.Common.{◌≡◌, ℕ, suc, ◌+◌, ◌<◌, ◌≤◌, ◌==◌, Bool, true, false, not, cond, List, [], ◌∷◌, ◌++◌, length, map, take, get_or, set, slice_get, None, Some, Result, refl, sym, ◌∙◌, ap, ap₂, subst, arith, ◌⊎◌, inl, inr, if◌then◌else◌, true≢false, ◌↔◌, IsTrue}
 use Rattle.std.specs.List.{All, Contains}
 use Rattle.std.specs.Option.{option_map}
 use Rattle.std.specs.Str.{bytes_eq}
@@ -16,10 +16,11 @@ use Rattle.mt_text_spec.specs.Registries.{Attr}
 use Rattle.mt_store_spec.specs.Lexicons.{IsLexiconOf, Renumbers}
 use Rattle.mt_lexicon.specs.Joins.{renumbered}
 use Rattle.mt_lexicon.proofs.Renumbered.{numbers_within, renumbers_then}
-use Rattle.mt_mapper.specs.Calls.{counted, CountedAtMost}
+use Rattle.mt_mapper.specs.Calls.{counted}
 use Rattle.mt_mapper.proofs.Counts.{counted_none}
-use Rattle.mt_segment_spec.specs.Tables.{AttrTables, AreAttrTables}
-use Rattle.mt_segment.specs.Mappers.{AreMapped, AreCounted, AreCountedAtMost, named, image_by, number_of}
+use Rattle.mt_segment_spec.specs.Tables.{AttrTables, AreBaseTables, AreMappedTables}
+use Rattle.mt_segment.specs.Mappers.{AreMapped, AreCalled, Called, named, image_by, number_of}
+use Rattle.mt_segment.proofs.Calls.{not_called}
 use Rattle.mt_segment.proofs.Valued.{postings_are}
 
 -- ---- the mapper of a name
@@ -122,31 +123,17 @@ module _ (P : ℕ → ℕ → ℕ → Type 0) (none : (x : ℕ) → P x 0 x) (ol
           let new : get_or (set old at y) k 0 ≡ get_or old k 0 = get_or-set_other old at k y 0 differs in
           rw (due, new) (none (get_or old k 0))
 
-counted_one : (old : List ℕ) (at number n y : ℕ) → at ≡ number → at < length old → y ≡ counted (get_or old at 0) n → AreCounted (λ m. if number == m then n else 0) old (set old at y)
-counted_one old at number n y e l is = record {
-  count = length-set old at y;
-  at = λ k m. only_one (λ x due z. z ≡ counted x due) (λ x. sym (counted_none x)) old at number n y e l is k;
-}
-
-counted_one_at_most : (old : List ℕ) (at number n y : ℕ) → at ≡ number → at < length old → CountedAtMost (get_or old at 0) n y → AreCountedAtMost (λ m. if number == m then n else 0) old (set old at y)
-counted_one_at_most old at number n y e l is = record {
-  count = length-set old at y;
-  at = λ k m. only_one CountedAtMost (λ x. record { more = 0; few = omega arith; are = sym (counted_none x) }) old at number n y e l is k;
-}
-
-module _ {M : Type 0} (calls : M → ℕ) (mappers : List M) (at number n : ℕ) (d new : M) (e : at ≡ number) (l : at < length mappers) where
-  read : get_or (map calls mappers) at 0 ≡ calls (get_or mappers at d)
-  read = get_or-map calls mappers at d 0 l
-
-  pub calls_counted : calls new ≡ counted (calls (get_or mappers at d)) n → AreCounted (λ m. if number == m then n else 0) (map calls mappers) (map calls (set mappers at new))
-  calls_counted more =
-      subst (AreCounted (λ m. if number == m then n else 0) (map calls mappers)) (sym (map-set calls mappers at new))
-      (counted_one (map calls mappers) at number n (calls new) e (omega (arith, length-map mappers calls)) (more ∙ ap (λ (k : ℕ). counted k n) (sym read)))
-
-  pub calls_halfway : CountedAtMost (calls (get_or mappers at d)) n (calls new) → AreCountedAtMost (λ m. if number == m then n else 0) (map calls mappers) (map calls (set mappers at new))
-  calls_halfway more =
-      subst (AreCountedAtMost (λ m. if number == m then n else 0) (map calls mappers)) (sym (map-set calls mappers at new))
-      (counted_one_at_most (map calls mappers) at number n (calls new) e (omega (arith, length-map mappers calls)) (subst (λ (k : ℕ). CountedAtMost k n (calls new)) (sym read) more))
+pub one_called : {M T E : Type 0} (calls : M → ℕ) (mappers : List M) (at number n : ℕ) (d new : M) (answer : Result T E) → at ≡ number → at < length mappers → Called n (calls (get_or mappers at d)) (calls new) answer →
+    AreCalled (λ m. if number == m then n else 0) (map calls mappers) (map calls (set mappers at new)) answer
+one_called calls mappers at number n d new answer e l is =
+    let counts = map calls mappers in
+    let here : get_or counts at 0 ≡ calls (get_or mappers at d) = get_or-map calls mappers at d 0 l in
+    subst (λ (ys : List ℕ). AreCalled (λ m. if number == m then n else 0) counts ys answer) (sym (map-set calls mappers at new)) (record {
+      count = length-set counts at (calls new);
+      each = λ k m.
+          only_one (λ x due y. Called due x y answer) (λ x. not_called x answer) counts at number n (calls new) e (omega (arith, length-map mappers calls))
+          (subst (λ (x : ℕ). Called n x (calls new) answer) (sym here) is) k;
+    })
 
 -- ---- images
 
@@ -192,14 +179,15 @@ lexicon_map f values under lexicon h g = record {
 }
 
 -- the tables of a mapped attribute
-pub mapped_made : (base : ℕ) (f : List ℕ → List ℕ) (values : List (List ℕ)) (under tables : AttrTables) → AreAttrTables None values values under → AreMapped base f under tables →
-    AreAttrTables (Some base) (map f values) (map f under.lexicon) tables
+pub mapped_made : (base : ℕ) (f : List ℕ → List ℕ) (values : List (List ℕ)) (under tables : AttrTables) → AreBaseTables values under → AreMapped base f under tables → AreMappedTables base f under.lexicon (map f values) tables
 mapped_made base f values under tables h g =
     let column : Renumbers (renumbered tables.numbers under.numbers) (map f values) tables.lexicon =
     renumbers_then under.numbers tables.numbers (map f values) (map f under.lexicon) tables.lexicon (renumbers_map f under.numbers values under.lexicon h.numbers) g.numbers_are in
     record {
-      based = g.based;
-      lexicon = lexicon_map f values under.lexicon tables.lexicon h.lexicon g.lexicon;
+      mapped = g.based;
+      have = record {
+        lexicon = lexicon_map f values under.lexicon tables.lexicon h.have.lexicon g.lexicon;
+        postings = postings_are (renumbered tables.numbers under.numbers) (map f values) tables.lexicon column g.lexicon.ascending tables.postings g.postings;
+      };
       numbers = g.numbers_are;
-      postings = postings_are (renumbered tables.numbers under.numbers) (map f values) tables.lexicon column g.lexicon.ascending tables.postings g.postings;
     }

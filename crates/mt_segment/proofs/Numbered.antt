@@ -1,5 +1,5 @@
 -- Numbers by first sight, and the numbers of a lexicon that take their place.
-use Rattle.std.proofs.Common.{◌≡◌, ℕ, ◌+◌, ◌<◌, ◌≤◌, Bool, true, false, List, [], ◌∷◌, ◌++◌, length, length-append, get_or, slice_get, Some, refl, sym, ◌∙◌, ap, ap₂, subst, arith, if◌then◌else◌, suc, ◌⊎◌, inl, inr}
+use Rattle.std.proofs.Common.{◌≡◌, ℕ, ◌+◌, ◌<◌, ◌≤◌, Bool, true, false, List, [], ◌∷◌, ◌++◌, length, length-append, drop, get_or, slice_get, Some, refl, sym, ◌∙◌, ap, ap₂, subst, arith, if◌then◌else◌, suc, ◌⊎◌, inl, inr}
 use Rattle.std.specs.List.{All, Contains, list_any}
 use Rattle.std.specs.Option.{option_map}
 use Rattle.std.specs.Str.{bytes_eq}
@@ -9,7 +9,7 @@ use Rattle.std.proofs.lemmas.List.Elements.{All-from_get_or, Contains-append_lef
 use Rattle.std.proofs.lemmas.Option.{slice_get-get_or, slice_get_within, slice_get-map, get_or_from_slice_get}
 use Rattle.mt_store_spec.specs.Lexicons.{IsLexiconOf, Renumbers, seen_with}
 use Rattle.mt_lexicon.specs.Joins.{renumbered}
-use Rattle.mt_lexicon.proofs.Renumbered.{renumbers_then}
+use Rattle.mt_lexicon.proofs.Renumbered.{here, renumbers_then}
 use Rattle.mt_segment.specs.Numbered.{IsNumbered, stands_for}
 
 -- ---- a value more
@@ -90,3 +90,7 @@ finished_lexicon seen lexicon numbers h g = record {
       let (j, m, e) = g.only k [] l in
       subst (Contains (stands_for seen numbers)) (get_or_default seen j [] (get_or lexicon k []) m ∙ e) (h.only j [] m));
 }
+
+-- a number that is not renumbered yet has a new one
+pub not_yet_changed : (next items initial : List ℕ) (i : ℕ) → length items ≡ length initial → drop i items ≡ drop i initial → i < length items → All (λ n. n < length next) initial → get_or items i 0 < length next
+not_yet_changed next items initial i count left l all = rw (here items initial i 0 count left l) (all i 0 (omega (arith, count)))

@@ -1,12 +1,16 @@
 -- Tables put together one after the other.
-use Rattle.std.proofs.Common.{◌≡◌, ℕ, ◌+◌, ◌<◌, ◌≤◌, cond, List, [], ◌∷◌, ◌++◌, length, map, take, drop, get_or, sum, Option, None, Some, refl, sym, ◌∙◌, ap, ap₂, arith}
+use Rattle.std.proofs.Common.{◌≡◌, ℕ, ◌+◌, ◌*◌, ◌<◌, ◌≤◌, cond, List, [], ◌∷◌, ◌++◌, length, map, take, drop, get_or, sum, Option, None, Some, refl, sym, ◌∙◌, ap, ap₂, arith}
 use Rattle.std.specs.Prelude.{filter, is_none, is_some}
-use Rattle.std.proofs.lemmas.List.{length-map, length-drop, get_or-map, same_lists, drop_more, take_more, take_all}
+use Rattle.std.specs.List.{All, flat_map}
+use Rattle.std.proofs.lemmas.List.{length-map, length-drop, get_or-map, get_or_default, same_lists, drop_more, take_more, take_all}
 use Rattle.std.proofs.lemmas.Simd.{map-map}
 use Rattle.mt_text_spec.specs.Registries.{Registry, Attr, base_attr}
-use Rattle.mt_text_spec.specs.Texts.{Text, total_tokens, corpus_tokens_limit}
-use Rattle.mt_segment_spec.specs.Tables.{Tables, AttrTables, Instance, AreTablesUnder, HaveParts, tables_at}
+use Rattle.mt_text_spec.specs.Texts.{StructSpan, Text, total_tokens, corpus_tokens_limit}
+use Rattle.mt_segment_spec.specs.Tables.{Tables, AttrTables, AreTablesUnder, HaveParts, tables_at, instances_of, is_of_kind}
+use Rattle.mt_segment_laws.proofs.Values.{based}
 use Rattle.mt_segment.specs.Joined.{AreJoined, HasNumbers, TakesNumbers}
+use Rattle.mt_segment.specs.Lists.{groups}
+use Rattle.mt_segment.proofs.Blocks.{groups_joined, joined_length}
 
 -- the first so many tables are put together, and the parts of the others are left
 pub record IsPartedAt (attrs : List Attr) (t : List AttrTables) (i : ℕ) (all : List AttrTables) (lexicons : List (List (List ℕ))) (columns mapped : List (List ℕ)) (postings : List (List (List ℕ))) : Type 0 where
@@ -133,15 +137,15 @@ parted_all attrs t i all lexicons columns mapped postings h l =
 
 -- ---- the tables of texts
 
-pub joined_from : (registry : Registry) (t : Tables) (texts : List (List ℕ × ℕ)) (lexicons : List (List (List ℕ))) (columns mapped : List (List ℕ)) (postings : List (List (List ℕ))) (structs : List (List Instance)) →
+pub joined_from : (registry : Registry) (t : Tables) (texts : List (List ℕ × ℕ)) (lexicons : List (List (List ℕ))) (columns mapped : List (List ℕ)) (postings : List (List (List ℕ))) (structs : List (List StructSpan)) →
     AreTablesUnder registry t → HaveParts t texts lexicons columns mapped postings structs → AreJoined registry.attrs t.attrs lexicons columns mapped postings
 joined_from registry t texts lexicons columns mapped postings structs under h = record {
   bases = same_lists (map (λ attr. attr.base) t.attrs) (map (λ attr. attr.base) registry.attrs)
-      (length-map t.attrs (λ attr. attr.base) ∙ under.are.attr_count ∙ sym (length-map registry.attrs (λ attr. attr.base)))
+      (length-map t.attrs (λ attr. attr.base) ∙ under.by.are.attr_count ∙ sym (length-map registry.attrs (λ attr. attr.base)))
       (λ k d l.
       let low : k < length t.attrs = omega (arith, length-map t.attrs (λ attr. attr.base)) in
-      let within : k < length registry.attrs = omega (arith, under.are.attr_count) in
-      get_or-map (λ attr. attr.base) t.attrs k (tables_at [] 0) d low ∙ (under.are.attrs k within).based ∙ sym (get_or-map (λ attr. attr.base) registry.attrs k (base_attr []) d within));
+      let within : k < length registry.attrs = omega (arith, under.by.are.attr_count) in
+      get_or-map (λ attr. attr.base) t.attrs k (tables_at [] 0) d low ∙ based under.images registry under.by.corpus t under.by.are k within ∙ sym (get_or-map (λ attr. attr.base) registry.attrs k (base_attr []) d within));
   lexicons_are = h.lexicons_are;
   columns_are = h.columns_are;
   mapped_are = h.mapped_are;
@@ -150,16 +154,32 @@ joined_from registry t texts lexicons columns mapped postings structs under h = 
 
 pub tokens_fit : (registry : Registry) (t : Tables) (texts : List (List ℕ × ℕ)) → AreTablesUnder registry t → texts ≡ t.texts → sum (map (λ (head : List ℕ × ℕ). head.1) texts) ≤ corpus_tokens_limit
 tokens_fit registry t texts under e =
-    let all : sum (map (λ (head : List ℕ × ℕ). head.1) texts) ≡ total_tokens under.corpus =
-    ap (λ (heads : List (List ℕ × ℕ)). sum (map (λ head. head.1) heads)) (e ∙ under.are.texts)
-    ∙ ap sum (map-map (λ (head : List ℕ × ℕ). head.1) (λ (text : Text). (text.name, length text.tokens)) under.corpus) in
-    omega (arith, all, under.texts.short)
+    let all : sum (map (λ (head : List ℕ × ℕ). head.1) texts) ≡ total_tokens under.by.corpus =
+    ap (λ (heads : List (List ℕ × ℕ)). sum (map (λ head. head.1) heads)) (e ∙ under.by.are.texts)
+    ∙ ap sum (map-map (λ (head : List ℕ × ℕ). head.1) (λ (text : Text). (text.name, length text.tokens)) under.by.corpus) in
+    omega (arith, all, under.by.texts.short)
 
-pub put_together : (t : Tables) (texts : List (List ℕ × ℕ)) (attrs : List AttrTables) (lexicons : List (List (List ℕ))) (columns mapped : List (List ℕ)) (postings : List (List (List ℕ))) (structs : List (List Instance)) →
-    HaveParts t texts lexicons columns mapped postings structs → attrs ≡ t.attrs → record { texts = texts; attrs = attrs; structs = structs } ≡ t
-put_together t texts attrs lexicons columns mapped postings structs h e =
-    let f : List (List ℕ × ℕ) → List AttrTables → List (List Instance) → Tables = λ heads xs instances. record { texts = heads; attrs = xs; structs = instances } in
-    ap (λ (heads : List (List ℕ × ℕ)). f heads attrs structs) h.texts_are ∙ ap (λ (xs : List AttrTables). f t.texts xs structs) e ∙ ap (f t.texts t.attrs) h.structs_are
+-- the instances stand in groups again
+pub lists_grouped : (registry : Registry) (t : Tables) (texts : List (List ℕ × ℕ)) (structs : List (List StructSpan)) (kinds : ℕ) → AreTablesUnder registry t → texts ≡ t.texts → structs ≡ flat_map (λ kind. kind) t.structs → kinds ≡ length registry.kinds →
+    (groups (length texts) kinds structs ≡ t.structs) × (length structs ≡ kinds * length texts)
+lists_grouped registry t texts structs kinds under e f k =
+    let are = under.by.are in
+    let many : length texts ≡ length under.by.corpus = ap length (e ∙ are.texts) ∙ length-map under.by.corpus (λ (text : Text). (text.name, length text.tokens)) in
+    let count : kinds ≡ length t.structs = k ∙ sym are.kind_count in
+    let each : All (λ list. length list ≡ length texts) t.structs = λ i d l.
+    get_or_length (get_or t.structs i d) (instances_of i under.by.corpus) (get_or_default t.structs i d [] l ∙ are.structs i (omega (arith, are.kind_count)))
+    ∙ length-map under.by.corpus (λ (text : Text). filter (is_of_kind i) text.structs) ∙ sym many
+    in
+    let all : groups (length texts) (length t.structs) (flat_map (λ kind. kind) t.structs) ≡ t.structs = groups_joined (length texts) t.structs each in
+    (ap₂ (groups (length texts)) count f ∙ all, ap length f ∙ joined_length (length texts) t.structs each ∙ ap (λ (n : ℕ). n * length texts) (sym count))
+  where
+    get_or_length : {X : Type 0} (xs ys : List X) → xs ≡ ys → length xs ≡ length ys
+    get_or_length xs ys e = ap length e
+
+pub put_together : (t : Tables) (texts : List (List ℕ × ℕ)) (attrs : List AttrTables) (lists : List (List (List StructSpan))) → texts ≡ t.texts → attrs ≡ t.attrs → lists ≡ t.structs → record { texts = texts; attrs = attrs; structs = lists } ≡ t
+put_together t texts attrs lists e g h =
+    let f : List (List ℕ × ℕ) → List AttrTables → List (List (List StructSpan)) → Tables = λ heads xs instances. record { texts = heads; attrs = xs; structs = instances } in
+    ap (λ (heads : List (List ℕ × ℕ)). f heads attrs lists) e ∙ ap (λ (xs : List AttrTables). f t.texts xs lists) g ∙ ap (f t.texts t.attrs) h
 
 -- the same at lists that are equal
 pub joined_at : (attrs others : List Attr) (t : List AttrTables) (lexicons its_lexicons : List (List (List ℕ))) (columns its_columns mapped its_mapped : List (List ℕ)) (postings its_postings : List (List (List ℕ))) →

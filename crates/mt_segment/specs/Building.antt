@@ -1,9 +1,10 @@
 -- The tables of all attributes: first those of the base attributes, then, in their places, those of the mapped ones.
-use Rattle.std.specs.Prelude.{ℕ, ◌≡◌, ◌<◌, List, [], length, slice_index_or, slice_set, Option, None, Some}
+use Rattle.std.specs.Prelude.{ℕ, ◌≡◌, ◌*◌, ◌<◌, List, [], length, slice_index_or, slice_set, Option, None, Some}
 use Rattle.std.specs.List.{All}
 use Rattle.mt_text_spec.specs.Registries.{Attr, base_attr, column_of}
-use Rattle.mt_text_spec.specs.Texts.{Text}
-use Rattle.mt_segment_spec.specs.Tables.{AttrTables, Instance, AreAttrTables, column_values, instances_from, tables_at}
+use Rattle.mt_text_spec.specs.Texts.{StructSpan, Text}
+use Rattle.mt_segment_spec.specs.Tables.{AttrTables, AreBaseTables, column_values, instances_of, tables_at}
+use Rattle.mt_segment.specs.Lists.{groups}
 use Rattle.mt_segment.specs.Mappers.{AreMapped}
 
 -- the attribute with this number
@@ -11,10 +12,9 @@ abbrev pub attr_of : List Attr → ℕ → Attr
 attr_of attrs number = slice_index_or attrs number (base_attr [])
 
 -- the tables of the base attributes among the first so many attributes are made
-pub record AreBaseTables (attrs : List Attr) (corpus : List Text) (tables : List AttrTables) (many : ℕ) : Type 0 where
+pub record HaveBases (attrs : List Attr) (corpus : List Text) (tables : List AttrTables) (many : ℕ) : Type 0 where
   pub count : length tables ≡ many
-  pub at : (number : ℕ) → number < many → (attr_of attrs number).base ≡ None →
-      AreAttrTables None (column_values (column_of attrs number) corpus) (column_values (column_of attrs number) corpus) (tables_at tables number)
+  pub at : (number : ℕ) → number < many → (attr_of attrs number).base ≡ None → AreBaseTables (column_values (column_of attrs number) corpus) (tables_at tables number)
 
 -- tables from which others can be made: each number is one of the lexicon's
 pub record AreUsable (tables : AttrTables) : Type 0 where
@@ -38,7 +38,7 @@ pub record AreAllMapped (images : List ℕ → List ℕ → List ℕ) (attrs : L
   pub kept : (number : ℕ) → (attr_of attrs number).base ≡ None → tables_at new number ≡ tables_at old number
   pub mapped : (number base : ℕ) → number < many → (attr_of attrs number).base ≡ Some base → AreMapped base (images (attr_of attrs number).mapper) (tables_at old base) (tables_at new number)
 
--- the instances of the first so many kinds
-pub record AreInstances (corpus : List Text) (structs : List (List Instance)) (many : ℕ) : Type 0 where
-  pub count : length structs ≡ many
-  pub at : (kind : ℕ) → kind < many → slice_index_or structs kind [] ≡ instances_from 0 kind corpus
+-- the instances of the first so many kinds, each in each text
+pub record AreInstances (corpus : List Text) (lists : List (List StructSpan)) (many : ℕ) : Type 0 where
+  pub count : length lists ≡ many * length corpus
+  pub at : (kind : ℕ) → kind < many → slice_index_or (groups (length corpus) many lists) kind [] ≡ instances_of kind corpus

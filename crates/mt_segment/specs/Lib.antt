@@ -2,7 +2,8 @@ pub mod Building
 pub mod Counting
 pub mod Ends
 pub mod Joined
-pub mod Laws
+pub mod Lists
 pub mod Mappers
 pub mod Numbered
+pub mod Numbers
 pub mod Parts

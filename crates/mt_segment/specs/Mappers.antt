@@ -1,5 +1,5 @@
 -- The mappers that are handed in: each is seen as its name and its image of each value. Where two have one name, the first of them counts.
-use Rattle.std.specs.Prelude.{ℕ, ◌≡◌, ◌<◌, ◌==◌, List, [], ◌∷◌, length, map, sum, slice_index, if◌then◌else◌, Option, None, Some}
+use Rattle.std.specs.Prelude.{ℕ, ◌≡◌, ◌<◌, ◌==◌, List, [], ◌∷◌, length, map, sum, slice_index, if◌then◌else◌, Option, None, Some, Result, OnOk, OnErr}
 use Rattle.std.specs.List.{All, Contains, position_or_len}
 use Rattle.std.specs.Str.{bytes_eq}
 use Rattle.mt_text_spec.specs.Registries.{Attr}
@@ -39,15 +39,15 @@ calls_of names tables mapper name (Some base) = if number_of names name == mappe
 abbrev pub calls_due : List (List ℕ) → List AttrTables → List Attr → ℕ → ℕ
 calls_due names tables attrs mapper = sum (map (λ attr. calls_of names tables mapper attr.mapper attr.base) attrs)
 
--- each mapper was called so often
-pub record AreCounted (due : ℕ → ℕ) (old new : List ℕ) : Type 0 where
-  pub count : length new ≡ length old
-  pub at : (mapper : ℕ) → mapper < length old → slice_index new mapper ≡ counted (slice_index old mapper) (due mapper)
+-- What calls of a mapper do to its count: it is called so often, or where memory is wanted half-way at most so often.
+pub record Called {T E : Type 0} (due old new : ℕ) (answer : Result T E) : Type 0 where
+  pub all : OnOk answer (new ≡ counted old due)
+  pub halfway : OnErr answer (CountedAtMost old due new)
 
--- or less often
-pub record AreCountedAtMost (due : ℕ → ℕ) (old new : List ℕ) : Type 0 where
+-- and of each of these mappers
+pub record AreCalled {T E : Type 0} (due : ℕ → ℕ) (old new : List ℕ) (answer : Result T E) : Type 0 where
   pub count : length new ≡ length old
-  pub at : (mapper : ℕ) → mapper < length old → CountedAtMost (slice_index old mapper) (due mapper) (slice_index new mapper)
+  pub each : (mapper : ℕ) → mapper < length old → Called (due mapper) (slice_index old mapper) (slice_index new mapper) answer
 
 -- The tables of an attribute with this base: of its values for those of the base, which are given, and of the base's numbers.
 pub record AreMade (base : ℕ) (images : List (List ℕ)) (numbers : List ℕ) (tables : AttrTables) : Type 0 where

@@ -1,21 +1,21 @@
 //! Building a segment.
 
-ghost use Rattle.std.specs.Prelude.{◌≡◌, ℕ, ◌<◌, ◌≤◌, None, Some, length, map, sum, IfOk, OnOk, OnErr};
+ghost use Rattle.std.specs.Prelude.{◌≡◌, ℕ, ◌<◌, ◌≤◌, None, Some, length, map, sum, IfOk, OnOk};
 ghost use Rattle.std.specs.List.{All, Contains};
 ghost use Rattle.mt_text_spec.specs.Registries.{ValidRegistry};
-ghost use Rattle.mt_text_spec.specs.Texts.{ValidCorpus, text_tokens_limit, corpus_texts_limit, corpus_tokens_limit, total_tokens};
+ghost use Rattle.mt_text_spec.specs.Texts.{ValidCorpus, text_tokens_limit, corpus_tokens_limit, total_tokens};
 ghost use Rattle.mt_segment_spec.specs.Tables as spec;
-ghost use Rattle.mt_segment_spec.specs.Tables.{AreAttrTables, AreTablesOf, column_values, heads_of, tables_at};
-ghost use Rattle.mt_segment.specs.Building.{AreAllMapped, AreBaseTables, AreInstances, AreUsable, HasBase, IsMappedAt};
+ghost use Rattle.mt_segment_spec.specs.Tables.{AreBaseTables, AreTablesOf, column_values, heads_of, tables_at};
+ghost use Rattle.mt_segment.specs.Building.{AreAllMapped, AreUsable, HasBase, HaveBases, IsMappedAt};
 ghost use Rattle.mt_segment.specs.Ends.{AreEndsOf};
-ghost use Rattle.mt_segment.specs.Mappers.{AreCounted, AreCountedAtMost, AreThere, calls_due, calls_of, image_by, named};
+ghost use Rattle.mt_segment.specs.Mappers.{AreCalled, AreThere, calls_due, calls_of, image_by, named};
 
 use super::columns::base_tables;
 use super::mapped::map_by_name;
 use super::numbering::Numbering;
 use super::segment::Segment;
-use super::structs::{SegStruct, instances};
-use super::table::AttrTables;
+use super::structs::all_instances;
+use super::table::{AttrTables, MappedTable, Numbers};
 use mt_base::{Attr, List, NoMemory, Registry, Text, Value};
 use mt_mapper::Mapper;
 use std::alloc::Global;
@@ -35,16 +35,16 @@ impl Segment {
         requires mappers { AreThere (map M.called mappers.old) registry.now.attrs }
         ensures tables { IfOk result (λ segment. AreTablesOf (image_by (named M.called M.image mappers.old)) registry.now texts.now segment) }
         ensures same { named M.called M.image mappers.new ≡ named M.called M.image mappers.old }
-        ensures calls { IfOk result (λ segment. AreCounted (calls_due (map M.called mappers.old) segment.attrs registry.now.attrs) (map M.calls mappers.old) (map M.calls mappers.new)) }
-        ensures halfway { OnErr result ((t : spec.Tables) → AreTablesOf (image_by (named M.called M.image mappers.old)) registry.now texts.now t → AreCountedAtMost (calls_due (map M.called mappers.old) t.attrs registry.now.attrs) (map M.calls mappers.old) (map M.calls mappers.new)) }
+        ensures calls { (t : spec.Tables) → AreTablesOf (image_by (named M.called M.image mappers.old)) registry.now texts.now t → AreCalled (calls_due (map M.called mappers.old) t.attrs registry.now.attrs) (map M.calls mappers.old) (map M.calls mappers.new) result }
     {
         let heads = heads(alloc, texts)?;
         let ends = ends(alloc, heads.as_slice())?;
         let attrs = registry.attrs().as_slice();
         let mut tables = all_base_tables(alloc, texts, attrs, ends[ends.len() - 1] as usize)?;
         map_all(alloc, attrs, tables.as_mut_slice(), mappers)?;
-        let structs = all_instances(alloc, texts, registry.kinds().len() as u16)?;
-        Ok(Segment::from_parts(heads, ends, List::from_vec(tables), structs))
+        let kinds = registry.kinds().len() as u16;
+        let structs = all_instances(alloc, texts, kinds)?;
+        Ok(Segment::from_parts(heads, ends, List::from_vec(tables), kinds, structs))
     }
 }
 
@@ -82,7 +82,7 @@ fn all_base_tables(
     tokens: usize,
 ) -> Result<Vec<AttrTables>, NoMemory>
     requires { total_tokens texts.now ≤ corpus_tokens_limit }
-    ensures { IfOk result (λ tables. AreBaseTables attrs.now texts.now tables.items (length attrs.now)) }
+    ensures { IfOk result (λ tables. HaveBases attrs.now texts.now tables.items (length attrs.now)) }
 {
     let mut tables = Vec::with_capacity(alloc, attrs.len())?;
     let mut column = 0;
@@ -102,7 +102,7 @@ fn first_tables(
     tokens: usize,
 ) -> Result<AttrTables, NoMemory>
     requires { total_tokens texts.now ≤ corpus_tokens_limit }
-    ensures { IfOk result (λ tables. attr.now.base ≡ None → AreAttrTables None (column_values column texts.now) (column_values column texts.now) tables) }
+    ensures { IfOk result (λ tables. attr.now.base ≡ None → AreBaseTables (column_values column texts.now) tables) }
 {
     match attr.base() {
         None => base_tables(alloc, texts, column, tokens),
@@ -114,9 +114,8 @@ fn first_tables(
 fn unmade(alloc: Global, base: u16) -> Result<AttrTables, NoMemory> {
     let (lexicon, numbers) = Numbering::new(alloc, 0)?.finish()?;
     Ok(AttrTables {
-        base: Some(base),
         lexicon,
-        numbers,
+        numbers: Numbers::Mapped(base, MappedTable::new(numbers)),
         postings: List::new(alloc),
     })
 }
@@ -134,8 +133,7 @@ fn map_all<M: Mapper>(
     ensures length { length tables.new ≡ length tables.old }
     ensures tables { OnOk result (AreAllMapped (image_by (named M.called M.image mappers.old)) attrs.now tables.old tables.new (length attrs.now)) }
     ensures same { named M.called M.image mappers.new ≡ named M.called M.image mappers.old }
-    ensures calls { OnOk result (AreCounted (calls_due (map M.called mappers.old) tables.old attrs.now) (map M.calls mappers.old) (map M.calls mappers.new)) }
-    ensures halfway { OnErr result (AreCountedAtMost (calls_due (map M.called mappers.old) tables.old attrs.now) (map M.calls mappers.old) (map M.calls mappers.new)) }
+    ensures calls { AreCalled (calls_due (map M.called mappers.old) tables.old attrs.now) (map M.calls mappers.old) (map M.calls mappers.new) result }
 {
     for (number, attr) in attrs.iter().enumerate() {
         map_attr(alloc, number, attr, tables, mappers)?;
@@ -157,8 +155,7 @@ fn map_attr<M: Mapper>(
     ensures length { length tables.new ≡ length tables.old }
     ensures tables { OnOk result (IsMappedAt (image_by (named M.called M.image mappers.old) attr.now.mapper) attr.now.base number tables.old tables.new) }
     ensures same { named M.called M.image mappers.new ≡ named M.called M.image mappers.old }
-    ensures calls { OnOk result (AreCounted (λ m. calls_of (map M.called mappers.old) tables.old m attr.now.mapper attr.now.base) (map M.calls mappers.old) (map M.calls mappers.new)) }
-    ensures halfway { OnErr result (AreCountedAtMost (λ m. calls_of (map M.called mappers.old) tables.old m attr.now.mapper attr.now.base) (map M.calls mappers.old) (map M.calls mappers.new)) }
+    ensures calls { AreCalled (λ m. calls_of (map M.called mappers.old) tables.old m attr.now.mapper attr.now.base) (map M.calls mappers.old) (map M.calls mappers.new) result }
 {
     let Some(base) = attr.base() else {
         return Ok(());
@@ -172,20 +169,4 @@ fn map_attr<M: Mapper>(
     )?;
     tables[number] = made;
     Ok(())
-}
-
-/// The instances of each kind.
-fn all_instances(
-    alloc: Global,
-    texts: &[Text],
-    kinds: u16,
-) -> Result<List<List<SegStruct>>, NoMemory>
-    requires { length texts.now ≤ corpus_texts_limit }
-    ensures { IfOk result (λ all. AreInstances texts.now all kinds) }
-{
-    let mut all = List::with_capacity(alloc, kinds as usize)?;
-    for kind in 0..kinds {
-        all.push(instances(alloc, texts, kind)?)?;
-    }
-    Ok(all)
 }

@@ -1,12 +1,12 @@
 //! The tables of base attributes.
 
-ghost use Rattle.std.specs.Prelude.{◌≡◌, ◌+◌, ◌-◌, ◌^◌, ◌<◌, ◌≤◌, ◌++◌, length, map, None, IfOk, OnOk};
+ghost use Rattle.std.specs.Prelude.{◌≡◌, ◌+◌, ◌-◌, ◌^◌, ◌<◌, ◌≤◌, ◌++◌, length, map, IfOk, OnOk};
 ghost use Rattle.mt_text_spec.specs.Texts.{total_tokens, corpus_tokens_limit, value_of};
-ghost use Rattle.mt_segment_spec.specs.Tables.{AreAttrTables, column_values};
+ghost use Rattle.mt_segment_spec.specs.Tables.{AreBaseTables, column_values};
 
 use super::inverting::postings_of;
 use super::numbering::Numbering;
-use super::table::AttrTables;
+use super::table::{AttrTables, Column, Numbers};
 use mt_base::{NoMemory, Text};
 use std::alloc::Global;
 
@@ -18,7 +18,7 @@ pub(crate) fn base_tables(
     tokens: usize,
 ) -> Result<AttrTables, NoMemory>
     requires { total_tokens texts.now ≤ corpus_tokens_limit }
-    ensures { IfOk result (λ tables. AreAttrTables None (column_values column texts.now) (column_values column texts.now) tables) }
+    ensures { IfOk result (λ tables. AreBaseTables (column_values column texts.now) tables) }
 {
     let mut numbering = Numbering::new(alloc, tokens)?;
     for text in texts {
@@ -27,9 +27,8 @@ pub(crate) fn base_tables(
     let (lexicon, numbers) = numbering.finish()?;
     let postings = postings_of(alloc, numbers.as_slice(), lexicon.len() as usize)?;
     Ok(AttrTables {
-        base: None,
         lexicon,
-        numbers,
+        numbers: Numbers::Base(Column::new(numbers)),
         postings,
     })
 }

@@ -4,30 +4,31 @@ ghost use Rattle.std.specs.Prelude.{◌≡◌, List as Items, IfOk};
 ghost use Rattle.mt_segment_spec.specs.Tables as spec;
 ghost use Rattle.mt_segment_spec.specs.Tables.{AreTablesUnder, HaveParts};
 ghost use Rattle.mt_segment.specs.Joined.{AreJoined, HasNumbers, TakesNumbers};
+ghost use Rattle.mt_segment.specs.Numbers.{base_in, numbers_in};
 
 use super::building::ends;
+use super::lists::Lists;
 use super::queue::Queue;
 use super::segment::Segment;
-use super::structs::SegStruct;
-use super::table::{AttrTables, MappedTable};
-use mt_base::{Attr, List, NoMemory, Registry, Value};
+use super::table::{AttrTables, Column, MappedTable, Numbers};
+use mt_base::{Attr, List, NoMemory, Registry, StructSpan, Value};
 use mt_lexicon::Lexicon;
 use mt_postings::Postings;
 use std::alloc::Global;
 
 impl Segment {
     /// The segment with these tables, which are those of some valid texts: the texts' names and lengths; per attribute the lexicon, and for each of its values
-    /// the places; per base attribute the column; per mapped attribute the table; per kind of structure the instances. No mapper is called. Without memory
-    /// the tables are dropped.
+    /// the places; per base attribute the column; per mapped attribute the table; per kind of structure and text the instances. No mapper is called. Without
+    /// memory the tables are dropped.
     pub fn of_tables(
         alloc: Global,
         registry: &Registry,
         texts: List<(Value, u32)>,
         lexicons: List<Lexicon>,
-        columns: List<List<u32>>,
+        columns: List<Column>,
         tables: List<MappedTable>,
         postings: List<List<Postings>>,
-        structs: List<List<SegStruct>>,
+        structs: Lists<StructSpan>,
     ) -> Result<Self, NoMemory>
         requires { (t : spec.Tables) × AreTablesUnder registry.now t × HaveParts t texts lexicons columns tables postings structs }
         ensures { IfOk result (λ segment. (t : spec.Tables) → AreTablesUnder registry.now t → HaveParts t texts lexicons columns tables postings structs → segment ≡ t) }
@@ -41,7 +42,8 @@ impl Segment {
             Queue::new(tables.into_vec()),
             Queue::new(postings.into_vec()),
         )?;
-        Ok(Segment::from_parts(texts, ends, attrs, structs))
+        let kinds = registry.kinds().len() as u16;
+        Ok(Segment::from_parts(texts, ends, attrs, kinds, structs))
     }
 }
 
@@ -50,7 +52,7 @@ fn join(
     alloc: Global,
     attrs: &[Attr],
     mut lexicons: Queue<Lexicon>,
-    mut columns: Queue<List<u32>>,
+    mut columns: Queue<Column>,
     mut tables: Queue<MappedTable>,
     mut postings: Queue<List<Postings>>,
 ) -> Result<List<AttrTables>, NoMemory>
@@ -63,7 +65,6 @@ fn join(
         let numbers = take_numbers(attr.base(), &mut columns, &mut tables);
         let postings = postings.take();
         all.push(AttrTables {
-            base: attr.base(),
             lexicon,
             numbers,
             postings,
@@ -75,14 +76,15 @@ fn join(
 /// The next column for a base attribute, the next table for a mapped one.
 fn take_numbers(
     base: Option<u16>,
-    columns: &mut Queue<List<u32>>,
+    columns: &mut Queue<Column>,
     tables: &mut Queue<MappedTable>,
-) -> MappedTable
+) -> Numbers
     requires { HasNumbers base columns.old tables.old }
-    ensures { TakesNumbers base columns.old tables.old result columns.new tables.new }
+    ensures base { base_in result ≡ base }
+    ensures numbers { TakesNumbers base columns.old tables.old (numbers_in result) columns.new tables.new }
 {
     match base {
-        None => MappedTable::new(columns.take()),
-        Some(_) => tables.take(),
+        None => Numbers::Base(columns.take()),
+        Some(base) => Numbers::Mapped(base, tables.take()),
     }
 }

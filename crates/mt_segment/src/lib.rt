@@ -8,7 +8,7 @@ mod building;
 mod columns;
 mod inverting;
 mod joining;
-mod laws;
+mod lists;
 mod mapped;
 mod numbering;
 mod queue;
@@ -16,17 +16,18 @@ mod segment;
 mod structs;
 mod table;
 
-pub use laws::{have_one_tables, have_tables, numbers_stand_for_values};
+pub use lists::Lists;
 pub use mapped::has_mappers;
+use mt_base::StructSpan;
 pub use segment::Segment;
-pub use structs::SegStruct;
-pub use table::MappedTable;
+pub use table::{Column, MappedTable};
 
 fn shared<T: Send + Sync>() {}
 
 /// That threads may share segments and their parts is proved by this function.
 pub fn are_shared() {
     shared::<Segment>();
-    shared::<SegStruct>();
+    shared::<Lists<StructSpan>>();
+    shared::<Column>();
     shared::<MappedTable>();
 }

@@ -1,14 +1,13 @@
 //! The tables of mapped attributes.
 
-ghost use Rattle.std.specs.Prelude.{◌≡◌, ◌<◌, ◌==◌, length, map, if◌then◌else◌, IfOk, OnOk, OnErr, IfSome, IfNone, IsTrue, ◌↔◌};
+ghost use Rattle.std.specs.Prelude.{◌≡◌, ◌<◌, ◌==◌, length, map, if◌then◌else◌, IfOk, IfSome, IfNone, IsTrue, ◌↔◌};
 ghost use Rattle.std.specs.List.{All, Contains};
 ghost use Rattle.mt_lexicon.specs.Joins.{renumbered};
-ghost use Rattle.mt_mapper.specs.Calls.{counted, CountedAtMost};
-ghost use Rattle.mt_segment.specs.Mappers.{AreMade, AreMapped, AreCounted, AreCountedAtMost, AreThere, IsThere, image_by, named, number_of};
+ghost use Rattle.mt_segment.specs.Mappers.{AreCalled, AreMade, AreMapped, AreThere, Called, IsThere, image_by, named, number_of};
 
 use super::inverting::postings_of;
 use super::numbering::Numbering;
-use super::table::{AttrTables, MappedTable};
+use super::table::{AttrTables, MappedTable, Numbers};
 use mt_base::{Attr, NoMemory, Registry};
 use mt_lexicon::Lexicon;
 use mt_mapper::Mapper;
@@ -65,8 +64,7 @@ pub(crate) fn map_by_name<M: Mapper>(
     requires within { All (λ n. n < length under.now.lexicon) under.now.numbers }
     ensures tables { IfOk result (λ tables. AreMapped base (image_by (named M.called M.image mappers.old) name.now) under.now tables) }
     ensures same { named M.called M.image mappers.new ≡ named M.called M.image mappers.old }
-    ensures calls { OnOk result (AreCounted (λ m. if number_of (map M.called mappers.old) name.now == m then length under.now.lexicon else 0) (map M.calls mappers.old) (map M.calls mappers.new)) }
-    ensures halfway { OnErr result (AreCountedAtMost (λ m. if number_of (map M.called mappers.old) name.now == m then length under.now.lexicon else 0) (map M.calls mappers.old) (map M.calls mappers.new)) }
+    ensures calls { AreCalled (λ m. if number_of (map M.called mappers.old) name.now == m then length under.now.lexicon else 0) (map M.calls mappers.old) (map M.calls mappers.new) result }
 {
     match find(mappers, name) {
         Some(at) => mapped_tables(alloc, base, under, &mut mappers[at]),
@@ -84,8 +82,7 @@ fn mapped_tables<M: Mapper>(
     requires few { length under.now.numbers < 4294967295 }
     requires within { All (λ n. n < length under.now.lexicon) under.now.numbers }
     ensures tables { IfOk result (λ tables. AreMapped base (M.image mapper.old) under.now tables) }
-    ensures calls { OnOk result (M.calls mapper.new ≡ counted (M.calls mapper.old) (length under.now.lexicon)) }
-    ensures halfway { OnErr result (CountedAtMost (M.calls mapper.old) (length under.now.lexicon) (M.calls mapper.new)) }
+    ensures calls { Called (length under.now.lexicon) (M.calls mapper.old) (M.calls mapper.new) result }
     ensures image { M.image mapper.new ≡ M.image mapper.old }
     ensures called { M.called mapper.new ≡ M.called mapper.old }
 {
@@ -105,12 +102,12 @@ fn tables_of(
     ensures { IfOk result (λ tables. AreMade base images under.now.numbers tables) }
 {
     let (lexicon, numbers) = images.finish()?;
-    let column = through(alloc, under.numbers.as_slice(), &numbers)?;
+    let table = MappedTable::new(numbers);
+    let column = through(alloc, under.numbers.as_slice(), &table)?;
     let postings = postings_of(alloc, column.as_slice(), lexicon.len() as usize)?;
     Ok(AttrTables {
-        base: Some(base),
         lexicon,
-        numbers,
+        numbers: Numbers::Mapped(base, table),
         postings,
     })
 }
@@ -122,8 +119,7 @@ fn number_images<M: Mapper>(
     mapper: &mut M,
 ) -> Result<Numbering, NoMemory>
     ensures images { IfOk result (λ all. all ≡ map (M.image mapper.old) lexicon.now) }
-    ensures calls { OnOk result (M.calls mapper.new ≡ counted (M.calls mapper.old) (length lexicon.now)) }
-    ensures halfway { OnErr result (CountedAtMost (M.calls mapper.old) (length lexicon.now) (M.calls mapper.new)) }
+    ensures calls { Called (length lexicon.now) (M.calls mapper.old) (M.calls mapper.new) result }
     ensures image { M.image mapper.new ≡ M.image mapper.old }
     ensures called { M.called mapper.new ≡ M.called mapper.old }
 {

@@ -5,7 +5,6 @@ ghost use Rattle.std.specs.List.{All};
 ghost use Rattle.mt_lexicon.specs.Joins.{renumbered};
 ghost use Rattle.mt_store_spec.specs.Lexicons.{IsLexiconOf, Renumbers};
 
-use super::table::MappedTable;
 use mt_base::{List, NoMemory};
 use mt_lexicon::{Lexicon, LexiconBuilder, Renumbering};
 use std::alloc::Global;
@@ -53,14 +52,14 @@ impl Numbering {
     }
 
     /// The lexicon of the values, and the number there of each value in order.
-    pub(crate) fn finish(self) -> Result<(Lexicon, MappedTable), NoMemory>
+    pub(crate) fn finish(self) -> Result<(Lexicon, List<u32>), NoMemory>
         ensures lexicon { IfOk result (λ r. IsLexiconOf self r.0) }
         ensures numbers { IfOk result (λ r. Renumbers r.1 self r.0) }
     {
         let Numbering { seen, mut numbers } = self;
         let (lexicon, renumbering) = seen.finish()?;
         renumber(numbers.as_mut_slice(), &renumbering);
-        Ok((lexicon, MappedTable::new(List::from_vec(numbers))))
+        Ok((lexicon, List::from_vec(numbers)))
     }
 }
 

@@ -1,13 +1,15 @@
 //! The segment.
 
-ghost use Rattle.std.specs.Prelude.{◌≡◌, ℕ, ◌+◌, ◌<◌, [], length, slice_index_or};
+ghost use Rattle.std.specs.Prelude.{◌≡◌, ℕ, ◌+◌, ◌*◌, ◌<◌, ◌≤◌, [], length, slice_index_or, None, IsSome};
+ghost use Rattle.std.specs.List.{flat_map};
 ghost use Rattle.mt_segment_spec.specs.Tables as spec;
 ghost use Rattle.mt_segment.specs.Ends.{AreEndsOf};
+ghost use Rattle.mt_segment.specs.Lists.{groups};
 ghost use Rattle.mt_segment_spec.specs.Tables.{AreTables, first_place, number_at, tables_at, token_count};
 
-use super::structs::SegStruct;
-use super::table::{AttrTables, MappedTable};
-use mt_base::{List, Steps, Value};
+use super::lists::Lists;
+use super::table::{AttrTables, Column, MappedTable, Numbers};
+use mt_base::{List, Steps, StructSpan, Value};
 use mt_lexicon::Lexicon;
 use mt_postings::Postings;
 use std::marker::Model;
@@ -19,19 +21,22 @@ pub struct Segment {
     texts: List<(Value, u32)>,
     ends: Vec<u32>,
     attrs: List<AttrTables>,
-    structs: List<List<SegStruct>>,
+    kinds: u16,
+    structs: Lists<StructSpan>,
 }
 
 impl Model for Segment {
+    ghost use Rattle.std.specs.Prelude.{◌≡◌, ◌*◌, length};
     ghost use Rattle.mt_segment_spec.specs.Tables as spec;
     ghost use Rattle.mt_segment_spec.specs.Tables.{AreTables};
     ghost use Rattle.mt_segment.specs.Ends.{AreEndsOf};
+    ghost use Rattle.mt_segment.specs.Lists.{groups};
 
     ghost Value = { spec.Tables };
 
-    ghost view = { λ s. record { texts = s.texts; attrs = s.attrs; structs = s.structs } };
+    ghost view = { λ s. record { texts = s.texts; attrs = s.attrs; structs = groups (length s.texts) s.kinds s.structs } };
 
-    ghost invariant = { λ s. AreTables (record { texts = s.texts; attrs = s.attrs; structs = s.structs }) × AreEndsOf s.texts s.ends.items };
+    ghost invariant = { λ s. AreTables (record { texts = s.texts; attrs = s.attrs; structs = groups (length s.texts) s.kinds s.structs }) × AreEndsOf s.texts s.ends.items × (length s.structs ≡ s.kinds * length s.texts) };
 }
 
 impl Segment {
@@ -40,16 +45,19 @@ impl Segment {
         texts: List<(Value, u32)>,
         ends: Vec<u32>,
         attrs: List<AttrTables>,
-        structs: List<List<SegStruct>>,
+        kinds: u16,
+        structs: Lists<StructSpan>,
     ) -> Self
-        requires tables { AreTables (record { texts = texts; attrs = attrs; structs = structs }) }
+        requires tables { AreTables (record { texts = texts; attrs = attrs; structs = groups (length texts) kinds structs }) }
         requires ends { AreEndsOf texts ends.items }
-        ensures { result ≡ record { texts = texts; attrs = attrs; structs = structs } }
+        requires structs { length structs ≡ kinds * length texts }
+        ensures { result ≡ record { texts = texts; attrs = attrs; structs = groups (length texts) kinds structs } }
     {
         Segment {
             texts,
             ends,
             attrs,
+            kinds,
             structs,
         }
     }
@@ -83,6 +91,8 @@ impl Segment {
         requires { i < length self.now.texts }
         ensures begin { result.0 ≡ first_place self.now i }
         ensures end { result.1 ≡ first_place self.now (i + 1) }
+        ensures order { result.0 ≤ result.1 }
+        ensures within { result.1 ≤ token_count self.now }
     {
         let end = self.ends[i as usize];
         (end - self.texts.get(i as usize).1, end)
@@ -108,11 +118,12 @@ impl Segment {
         ensures valid { AreTables self.now }
     {
         let tables = self.attrs.get(attr as usize);
-        match tables.base {
-            None => tables.numbers.get(pos),
-            Some(base) => tables
-                .numbers
-                .get(self.attrs.get(base as usize).numbers.get(pos)),
+        let pos = pos as usize;
+        match &tables.numbers {
+            Numbers::Base(_) => tables.numbers.as_slice()[pos],
+            Numbers::Mapped(base, table) => {
+                table.get(self.attrs.get(*base as usize).numbers.as_slice()[pos])
+            }
         }
     }
 
@@ -133,19 +144,55 @@ impl Segment {
         &self.attrs.get(attr as usize).lexicon
     }
 
-    /// For each value of the base of a mapped attribute the number of its image.
-    pub fn table(&self, attr: u16) -> &MappedTable
+    /// The number of the base of a mapped attribute.
+    pub fn base(&self, attr: u16) -> Option<u16>
         requires { attr < length self.now.attrs }
-        ensures { result.now ≡ (tables_at self.now.attrs attr).numbers }
+        ensures { result ≡ (tables_at self.now.attrs attr).base }
     {
-        &self.attrs.get(attr as usize).numbers
+        self.attrs.get(attr as usize).numbers.base()
     }
 
-    /// The instances of a kind of structure, text by text.
-    pub fn structs(&self, kind: u16) -> &List<SegStruct>
-        requires { kind < length self.now.structs }
-        ensures { result.now ≡ slice_index_or self.now.structs kind [] }
+    /// For each token the number of its value at a base attribute.
+    pub fn column(&self, attr: u16) -> &Column
+        requires attr { attr < length self.now.attrs }
+        requires base { (tables_at self.now.attrs attr).base ≡ None }
+        ensures { result.now ≡ (tables_at self.now.attrs attr).numbers }
     {
-        self.structs.get(kind as usize)
+        match &self.attrs.get(attr as usize).numbers {
+            Numbers::Base(column) => column,
+            Numbers::Mapped(_, _) => unreachable!(),
+        }
+    }
+
+    /// For each value of the base of a mapped attribute the number of its image.
+    pub fn table(&self, attr: u16) -> &MappedTable
+        requires attr { attr < length self.now.attrs }
+        requires mapped { IsSome (tables_at self.now.attrs attr).base }
+        ensures { result.now ≡ (tables_at self.now.attrs attr).numbers }
+    {
+        match &self.attrs.get(attr as usize).numbers {
+            Numbers::Base(_) => unreachable!(),
+            Numbers::Mapped(_, table) => table,
+        }
+    }
+
+    /// The instances of a kind of structure in all texts, text by text.
+    pub fn structs(&self, kind: u16) -> &[StructSpan]
+        requires { kind < length self.now.structs }
+        ensures { result.now ≡ flat_map (λ spans. spans) (slice_index_or self.now.structs kind []) }
+    {
+        let texts = self.texts.len();
+        let first = kind as usize * texts;
+        self.structs.joined(first, first + texts)
+    }
+
+    /// The instances of a kind of structure in a text.
+    pub fn structs_in(&self, kind: u16, text: u32) -> &[StructSpan]
+        requires kind { kind < length self.now.structs }
+        requires text { text < length self.now.texts }
+        ensures { result.now ≡ slice_index_or (slice_index_or self.now.structs kind []) text [] }
+    {
+        self.structs
+            .get(kind as usize * self.texts.len() + text as usize)
     }
 }

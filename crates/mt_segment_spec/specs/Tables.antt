@@ -1,7 +1,7 @@
 -- What a segment holds of some texts: for each attribute its values and where they stand, and the instances of structures.
 -- The place of a token in a segment is the number of tokens before it, those of the earlier texts and those of its own.
-use Rattle.std.specs.Prelude.{ℕ, ◌≡◌, ◌+◌, ◌<◌, ◌==◌, Bool, List, [], ◌∷◌, ◌++◌, length, map, take, sum, filter, slice_get, slice_index, slice_index_or, is_none, is_some, Option, None, Some}
-use Rattle.std.specs.List.{All, Contains}
+use Rattle.std.specs.Prelude.{ℕ, ◌≡◌, ◌<◌, ◌==◌, Bool, List, [], length, map, take, sum, filter, slice_get, slice_index, slice_index_or, is_none, is_some, Option, None, Some}
+use Rattle.std.specs.List.{All, Contains, flat_map}
 use Rattle.std.specs.List.Sorted.{IsStrictlyIncreasing}
 use Rattle.mt_text_spec.specs.Registries.{Registry, Attr, ValidRegistry, base_attr, column_of}
 use Rattle.mt_text_spec.specs.Texts.{Text, Token, StructSpan, ValidCorpus, value_of, tokens_of}
@@ -17,18 +17,11 @@ pub record AttrTables : Type 0 where
   pub numbers : List ℕ
   pub postings : List (List ℕ)
 
--- an instance of a structure, in the text with this number, counted in the segment
-pub record Instance : Type 0 where
-  pub text : ℕ
-  pub begin : ℕ
-  pub end : ℕ
-  pub values : List (List ℕ)
-
--- The name and the number of tokens of each text, the tables of each attribute, and the instances of each kind of structure.
+-- The name and the number of tokens of each text, the tables of each attribute, and for each kind of structure its instances in each text.
 pub record Tables : Type 0 where
   pub texts : List (List ℕ × ℕ)
   pub attrs : List AttrTables
-  pub structs : List (List Instance)
+  pub structs : List (List (List StructSpan))
 
 -- ## The values of an attribute
 
@@ -40,20 +33,18 @@ attr_at registry number = slice_index_or registry.attrs number (base_attr [])
 abbrev pub column_values : ℕ → List Text → List (List ℕ)
 column_values column corpus = map (λ token. value_of token column) (tokens_of corpus)
 
--- and at the one with this number
-abbrev pub base_values : Registry → List Text → ℕ → List (List ℕ)
-base_values registry corpus number = column_values (column_of registry.attrs number) corpus
+-- the value of a token at the attribute with this number and this base: its own where there is none, and else the image of its value at the base
+abbrev pub value_by : (List ℕ → List ℕ) → Registry → ℕ → Token → Option ℕ → List ℕ
+value_by image registry number token None = value_of token (column_of registry.attrs number)
+value_by image registry number token (Some base) = image (value_of token (column_of registry.attrs base))
 
--- what stands in the first list for an attribute without base, and for one with a base the images of what stands for its base
-abbrev pub made_of : (List ℕ → List ℕ) → List (List ℕ) → (ℕ → List (List ℕ)) → Option ℕ → List (List ℕ)
-made_of image own of_base None = own
-made_of image own of_base (Some base) = map image (of_base base)
+-- the value of a token at an attribute, where a mapper's image is that of its name
+abbrev pub attr_value : (List ℕ → List ℕ → List ℕ) → Registry → ℕ → Token → List ℕ
+attr_value images registry number token = value_by (images (attr_at registry number).mapper) registry number token (attr_at registry number).base
 
--- The value of each token of the texts at an attribute: the token's own at a base attribute, the image of its value at the base at a mapped one.
--- A mapper's image is that of its name.
+-- the value of each token of the texts
 abbrev pub attr_values : (List ℕ → List ℕ → List ℕ) → Registry → List Text → ℕ → List (List ℕ)
-attr_values images registry corpus number =
-    made_of (images (attr_at registry number).mapper) (base_values registry corpus number) (base_values registry corpus) (attr_at registry number).base
+attr_values images registry corpus number = map (attr_value images registry number) (tokens_of corpus)
 
 -- ## When tables are those of given texts
 
@@ -68,12 +59,22 @@ pub record ArePostingsOf {X : Type 0} (lexicon values : List X) (postings : List
   pub count : length postings ≡ length lexicon
   pub each : (number : ℕ) (value : X) → slice_get lexicon number ≡ Some value → ArePlacesOf value values (slice_index_or postings number [])
 
--- The tables of an attribute that has these values at the tokens. What its numbers stand for is these values, or the images of the base's lexicon.
-pub record AreAttrTables (base : Option ℕ) (values numbered : List (List ℕ)) (tables : AttrTables) : Type 0 where
-  pub based : tables.base ≡ base
+-- tables have these values of the tokens: each distinct one, and where it stands
+pub record HaveValues (values : List (List ℕ)) (tables : AttrTables) : Type 0 where
   pub lexicon : IsLexiconOf values tables.lexicon
-  pub numbers : Renumbers tables.numbers numbered tables.lexicon
   pub postings : ArePostingsOf tables.lexicon values tables.postings
+
+-- The tables of a base attribute that has these values at the tokens: its numbers are those of the values.
+pub record AreBaseTables (values : List (List ℕ)) (tables : AttrTables) : Type 0 where
+  pub unmapped : tables.base ≡ None
+  pub have : HaveValues values tables
+  pub numbers : Renumbers tables.numbers values tables.lexicon
+
+-- The tables of a mapped attribute that has these values at the tokens: its numbers are those of the images of its base's lexicon.
+pub record AreMappedTables (base : ℕ) (image : List ℕ → List ℕ) (of_base values : List (List ℕ)) (tables : AttrTables) : Type 0 where
+  pub mapped : tables.base ≡ Some base
+  pub have : HaveValues values tables
+  pub numbers : Renumbers tables.numbers (map image of_base) tables.lexicon
 
 -- the tables of an attribute, by its number
 abbrev pub tables_at : List AttrTables → ℕ → AttrTables
@@ -86,33 +87,32 @@ heads_of corpus = map (λ text. (text.name, length text.tokens)) corpus
 abbrev pub is_of_kind : ℕ → StructSpan → Bool
 is_of_kind kind span = span.kind == kind
 
-abbrev pub instance_in : ℕ → StructSpan → Instance
-instance_in text span = record { text = text; begin = span.begin; end = span.end; values = span.values }
-
--- the instances of a kind in texts of which the first has the number `first`, text by text
-abbrev pub instances_from : ℕ → ℕ → List Text → List Instance
-instances_from first kind [] = []
-instances_from first kind (text ∷ texts) = map (instance_in first) (filter (is_of_kind kind) text.structs) ++ instances_from (first + 1) kind texts
+-- the instances of a kind in each text
+abbrev pub instances_of : ℕ → List Text → List (List StructSpan)
+instances_of kind corpus = map (λ text. filter (is_of_kind kind) text.structs) corpus
 
 -- The tables of these texts, under this registry and these images of its mappers.
 pub record AreTablesOf (images : List ℕ → List ℕ → List ℕ) (registry : Registry) (corpus : List Text) (tables : Tables) : Type 0 where
   pub texts : tables.texts ≡ heads_of corpus
   pub attr_count : length tables.attrs ≡ length registry.attrs
-  pub attrs : (number : ℕ) → number < length registry.attrs →
-      AreAttrTables (attr_at registry number).base (attr_values images registry corpus number)
-      (made_of (images (attr_at registry number).mapper) (attr_values images registry corpus number) (λ base. (tables_at tables.attrs base).lexicon) (attr_at registry number).base)
-      (tables_at tables.attrs number)
+  pub bases : (number : ℕ) → number < length registry.attrs → (attr_at registry number).base ≡ None → AreBaseTables (attr_values images registry corpus number) (tables_at tables.attrs number)
+  pub mapped : (number base : ℕ) → number < length registry.attrs → (attr_at registry number).base ≡ Some base →
+      AreMappedTables base (images (attr_at registry number).mapper) (tables_at tables.attrs base).lexicon (attr_values images registry corpus number) (tables_at tables.attrs number)
   pub kind_count : length tables.structs ≡ length registry.kinds
-  pub structs : (kind : ℕ) → kind < length registry.kinds → slice_index_or tables.structs kind [] ≡ instances_from 0 kind corpus
+  pub structs : (kind : ℕ) → kind < length registry.kinds → slice_index_or tables.structs kind [] ≡ instances_of kind corpus
 
--- Tables of valid texts, at least one, under a registry and some images.
-pub record AreTablesUnder (registry : Registry) (tables : Tables) : Type 0 where
+-- Tables of valid texts, at least one, under a registry and these images.
+pub record AreTablesBy (images : List ℕ → List ℕ → List ℕ) (registry : Registry) (tables : Tables) : Type 0 where
   pub valid : ValidRegistry registry
-  pub images : List ℕ → List ℕ → List ℕ
   pub corpus : List Text
   pub texts : ValidCorpus registry corpus
   pub some : 0 < length corpus
   pub are : AreTablesOf images registry corpus tables
+
+-- and under some images
+pub record AreTablesUnder (registry : Registry) (tables : Tables) : Type 0 where
+  pub images : List ℕ → List ℕ → List ℕ
+  pub by : AreTablesBy images registry tables
 
 -- and under some registry
 pub record AreTables (tables : Tables) : Type 0 where
@@ -121,14 +121,15 @@ pub record AreTables (tables : Tables) : Type 0 where
 
 -- ## Tables in parts
 
--- Tables as lists: lexicons and posting lists of all attributes, the columns of the base attributes and the tables of the mapped ones, all in order of declaration.
-pub record HaveParts (tables : Tables) (texts : List (List ℕ × ℕ)) (lexicons : List (List (List ℕ))) (columns mapped : List (List ℕ)) (postings : List (List (List ℕ))) (structs : List (List Instance)) : Type 0 where
+-- Tables as lists: lexicons and posting lists of all attributes, the columns of the base attributes and the tables of the mapped ones, all in order of declaration,
+-- and the instances in each text, kind by kind.
+pub record HaveParts (tables : Tables) (texts : List (List ℕ × ℕ)) (lexicons : List (List (List ℕ))) (columns mapped : List (List ℕ)) (postings : List (List (List ℕ))) (structs : List (List StructSpan)) : Type 0 where
   pub texts_are : texts ≡ tables.texts
   pub lexicons_are : lexicons ≡ map (λ attr. attr.lexicon) tables.attrs
   pub columns_are : columns ≡ map (λ attr. attr.numbers) (filter (λ attr. is_none attr.base) tables.attrs)
   pub mapped_are : mapped ≡ map (λ attr. attr.numbers) (filter (λ attr. is_some attr.base) tables.attrs)
   pub postings_are : postings ≡ map (λ attr. attr.postings) tables.attrs
-  pub structs_are : structs ≡ tables.structs
+  pub structs_are : structs ≡ flat_map (λ kind. kind) tables.structs
 
 -- ## What tables tell
 

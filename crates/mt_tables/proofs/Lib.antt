@@ -1,1 +1,2 @@
 pub mod Corpora
+pub mod Small

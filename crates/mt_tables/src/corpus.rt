@@ -7,7 +7,7 @@ ghost use Rattle.mt_text_spec.specs.Registries.{ValidRegistry};
 ghost use Rattle.mt_text_spec.specs.Registries as registries;
 ghost use Rattle.mt_text_spec.specs.Texts.{ValidCorpus, ValidText};
 
-use mt_base::{NoMemory, Registry, Text};
+use mt_base::{NoMemory, Registry, Text, Value};
 use mt_vertical::{TextError, read_text};
 use std::alloc::Global;
 
@@ -22,7 +22,7 @@ pub fn read_texts(
 {
     let mut texts = Vec::new(alloc);
     for vertical in verticals {
-        let name = name_of(texts.len());
+        let name = Value::new(alloc, name_of(texts.len()))?;
         add_read(
             &mut texts,
             read_text(alloc, name, vertical.as_bytes(), registry),

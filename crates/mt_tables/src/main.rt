@@ -2,11 +2,13 @@
 //!
 //! A case is a line `=== ` with its title, the lines of a registry, and behind each line `--- text` the lines of a text. The texts are named by the first
 //! letters. For each case the program prints a line a text with its bounds; a line an attribute with its values, one with the number at each place, one
-//! with the places of each value, and for a mapped one the table; and a line a kind of structure with its instances.
+//! with the places of each value, and for a mapped one the table; and a line a kind of structure with its instances. The last segment is put together of its
+//! tables.
 #![tactic(auto)]
 
 mod case;
 mod corpus;
+mod joined;
 mod show;
 
 use case::take_line;

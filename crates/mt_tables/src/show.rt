@@ -5,12 +5,13 @@ ghost use Rattle.mt_text_spec.specs.Registries.{ValidRegistry};
 
 use super::case::Case;
 use super::corpus::read_texts;
-use mt_base::{Attr, Kind, List, NoMemory, Registry, Steps, Value};
+use super::joined::{joined, registry};
+use mt_base::{Attr, Kind, List, NoMemory, Registry, Steps, StructSpan, Value};
 use mt_lexicon::Lexicon;
 use mt_mapper::{Fold, Mapper, Prefix, Suffix};
 use mt_postings::Postings;
-use mt_segment::{MappedTable, SegStruct, Segment, has_mappers};
-use mt_vertical::{RegistryError, read_registry};
+use mt_registry::{RegistryError, read_registry};
+use mt_segment::{MappedTable, Segment, has_mappers};
 use std::alloc::Global;
 use std::marker::Brand;
 use std::sync::ledger::{Blank, Ledger};
@@ -28,7 +29,16 @@ pub fn cases(alloc: Global, cases: &[Case]) -> Result<String, NoMemory> {
         out.push('\n')?;
         show_case(alloc, case, mappers.as_mut_slice(), &mut out)?;
     }
+    out.push_str("=== Put together of tables\n")?;
+    show_joined(alloc, &mut out)?;
     Ok(out)
+}
+
+/// A segment that is put together of its tables.
+fn show_joined(alloc: Global, out: &mut String) -> Result<(), NoMemory> {
+    let registry = registry(alloc)?;
+    let segment = joined(alloc, &registry)?;
+    show_segment::<Brand>(alloc, &segment, &registry, out, Blank::new(1))
 }
 
 /// The tables of a case.
@@ -96,7 +106,7 @@ fn show_segment<L: Ledger>(
         show_attr(alloc, segment, number as u16, attr, out, &mut steps)?;
     }
     for (number, kind) in registry.kinds().as_slice().iter().enumerate() {
-        show_instances(alloc, segment.structs(number as u16), kind, out)?;
+        show_kind(alloc, segment, number as u16, kind, out)?;
     }
     Ok(())
 }
@@ -126,7 +136,7 @@ fn show_attr<L: Ledger>(
     show_values(segment.lexicon(number), out)?;
     show_numbers(alloc, segment, number, out, steps)?;
     show_places(alloc, segment, number, out, steps)?;
-    if !attr.is_base() {
+    if segment.base(number).is_some() {
         show_table(alloc, segment.table(number), out)?;
     }
     Ok(())
@@ -208,30 +218,41 @@ fn show_table(alloc: Global, table: &MappedTable, out: &mut String) -> Result<()
     Ok(())
 }
 
-/// The instances of a kind: the text's number, begin and end, and the values.
-fn show_instances(
+/// The instances of a kind, text by text.
+fn show_kind(
     alloc: Global,
-    instances: &List<SegStruct>,
+    segment: &Segment,
+    number: u16,
     kind: &Kind,
     out: &mut String,
-) -> Result<(), NoMemory> {
+) -> Result<(), NoMemory>
+    requires { number < length segment.now.structs }
+{
     out.push_str(kind.name().as_str())?;
     out.push(':')?;
-    for instance in instances.as_slice() {
-        show_instance(alloc, instance, out)?;
+    for text in 0..segment.texts() {
+        show_instances(alloc, text, segment.structs_in(number, text), out)?;
     }
-    out.push('\n')?;
+    let all = segment.structs(number).len();
+    out.push_str(format!(in alloc; " ({all})\n")?.as_str())?;
     Ok(())
 }
 
-/// One instance.
-fn show_instance(alloc: Global, instance: &SegStruct, out: &mut String) -> Result<(), NoMemory> {
-    let (text, begin, end) = (instance.text(), instance.begin(), instance.end());
-    out.push_str(format!(in alloc; " | {text} {begin} {end}")?.as_str())?;
-    for value in instance.values().as_slice() {
-        out.push_str(" <")?;
-        out.push_str(value.as_str())?;
-        out.push('>')?;
+/// The instances of a kind in a text: the text's number, begin and end, and the values.
+fn show_instances(
+    alloc: Global,
+    text: u32,
+    instances: &[StructSpan],
+    out: &mut String,
+) -> Result<(), NoMemory> {
+    for instance in instances {
+        let (begin, end) = (instance.begin(), instance.end());
+        out.push_str(format!(in alloc; " | {text} {begin} {end}")?.as_str())?;
+        for value in instance.values().as_slice() {
+            out.push_str(" <")?;
+            out.push_str(value.as_str())?;
+            out.push('>')?;
+        }
     }
     Ok(())
 }

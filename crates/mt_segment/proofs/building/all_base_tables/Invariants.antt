@@ -1,8 +1,8 @@
 -- The tables of the base attributes so far are made, and the next of them has the next column.
 use Rattle.std.proofs.Common.{◌≡◌}
 use Rattle.mt_text_spec.specs.Registries.{column_of}
-use Rattle.mt_segment.specs.Building.{AreBaseTables}
+use Rattle.mt_segment.specs.Building.{HaveBases}
 use Rattle.mt_segment.proofs.building.all_base_tables.Given as goal
 
 abbrev pub invariant-loop-attr : goal.invariant-loop-attr
-invariant-loop-attr l = record { tables : AreBaseTables l.attrs l.texts l.tables.items l.attr-index; column : l.column ≡ column_of l.attrs l.attr-index }
+invariant-loop-attr l = record { tables : HaveBases l.attrs l.texts l.tables.items l.attr-index; column : l.column ≡ column_of l.attrs l.attr-index }

@@ -1,6 +1,9 @@
-use Rattle.std.proofs.Common.{◌≡◌, map, sym, ◌∙◌}
-use Rattle.mt_segment.proofs.Assembled.{all_mapped_more, calls_more, calls_part}
-use Rattle.mt_segment.proofs.Halfway.{always}
+use Rattle.std.proofs.Common.{◌≡◌, map, sym, ◌∙◌, subst}
+use Rattle.std.proofs.lemmas.List.{take_all}
+use Rattle.mt_segment.proofs.Assembled.{all_mapped_more}
+use Rattle.mt_segment.proofs.Calls.{AreCounted, all_called, are_counted}
+use Rattle.mt_segment.proofs.Due.{calls_more, calls_part}
+use Rattle.mt_segment.specs.Mappers.{calls_due}
 use Rattle.mt_segment.proofs.Mappings.{same_names}
 use Rattle.mt_segment.proofs.building.map_all.Given as given
 use Rattle.mt_segment.proofs.building.map_all.Goals as goal
@@ -21,11 +24,14 @@ loop-number-preserved g c = record {
   tables = all_mapped_more _ _ _ _ _ _ c.loop-number.invariant.tables c.loop-number-test.true c.requires.count c.index-attrs-number.is c.requires.bases _
       (rw c.loop-number.invariant.same at c.in_ok-map_attr.ensures.tables);
   calls = calls_more _ _ _ _ _ _ c.loop-number.invariant.tables c.loop-number-test.true c.requires.count c.index-attrs-number.is c.requires.bases _ _ _ _ c.loop-number.invariant.calls
-      (rw (names g (goal.at.loop-number-preserved g c).After-index-attrs-number) at c.in_ok-map_attr.ensures.calls);
+      (are_counted _ _ _ c.map_attr.result c.in_ok-map_attr.field-0 c.in_ok-map_attr.was (rw (names g (goal.at.loop-number-preserved g c).After-index-attrs-number) at c.map_attr.ensures.calls));
 }
 
-pub returns-in_err-map_attr-clause-halfway : goal.returns-in_err-map_attr-clause-halfway
-returns-in_err-map_attr-clause-halfway g c =
-    always c.from_residual.result
-    (calls_part _ _ _ _ _ _ c.loop-number.invariant.tables c.loop-number-test.true c.requires.count c.index-attrs-number.is c.requires.bases _ _ _ _ c.loop-number.invariant.calls
-    (rw (names g (goal.at.returns-in_err-map_attr-clause-halfway g c).After-index-attrs-number) at c.in_err-map_attr.ensures.halfway))
+pub returns-in_err-map_attr-clause-calls : goal.returns-in_err-map_attr-clause-calls
+returns-in_err-map_attr-clause-calls g c =
+    calls_part _ _ _ _ _ _ c.loop-number.invariant.tables c.loop-number-test.true c.requires.count c.index-attrs-number.is c.requires.bases _ _ _ _ c.map_attr.result c.in_err-map_attr.field-0.0 c.from_residual.result c.in_err-map_attr.was c.from_residual.ensures.0
+    c.loop-number.invariant.calls (rw (names g (goal.at.returns-in_err-map_attr-clause-calls g c).After-index-attrs-number) at c.map_attr.ensures.calls)
+
+pub returns-clause-calls : goal.returns-clause-calls
+returns-clause-calls g c =
+    all_called _ _ _ _ (subst (λ attrs. AreCounted (calls_due (map g.M.Mapper.called c.args.mappers.now) c.args.tables.now attrs) (map g.M.Mapper.calls c.args.mappers.now) (map g.M.Mapper.calls c.loop-number.mappers)) (take_all c.loop-number.number c.args.attrs.now c.loop-number-test.false) c.loop-number.invariant.calls)

@@ -1,7 +1,8 @@
 -- The mapped attributes so far have their tables, and their mappers were called for them.
 use Rattle.std.proofs.Common.{◌≡◌, map, take}
 use Rattle.mt_segment.specs.Building.{AreAllMapped}
-use Rattle.mt_segment.specs.Mappers.{AreCounted, calls_due, image_by, named}
+use Rattle.mt_segment.specs.Mappers.{calls_due, image_by, named}
+use Rattle.mt_segment.proofs.Calls.{AreCounted}
 use Rattle.mt_segment.proofs.building.map_all.Given as goal
 
 abbrev pub invariant-loop-number : goal.invariant-loop-number

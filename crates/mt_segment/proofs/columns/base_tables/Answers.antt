@@ -28,4 +28,4 @@ returns c =
     let lists : AreInverted c.in_ok-lexicon.numbers (length c.in_ok-lexicon.lexicon) c.in_ok-postings.postings =
     subst (λ (n : ℕ). AreInverted c.in_ok-lexicon.numbers n c.in_ok-postings.postings) c.len.ensures.number
     (subst (λ (ns : List ℕ). AreInverted ns c.len.result c.in_ok-postings.postings) c.as_slice.ensures c.in_ok-postings.ensures) in
-    base_made (record { base = None; lexicon = c.in_ok-lexicon.lexicon; numbers = c.in_ok-lexicon.numbers; postings = c.in_ok-postings.postings }) (column_values c.args.column c.args.texts.now) refl lexicon numbers lists
+    rw c.new-2.ensures (base_made (record { base = None; lexicon = c.in_ok-lexicon.lexicon; numbers = c.in_ok-lexicon.numbers; postings = c.in_ok-postings.postings }) (column_values c.args.column c.args.texts.now) refl lexicon numbers lists)

@@ -1,5 +1,4 @@
-use Rattle.mt_segment.proofs.Mappings.{image_is, same_named, calls_counted, calls_halfway}
-use Rattle.std.proofs.lemmas.Result.{on_ok_weaker, on_err_weaker}
+use Rattle.mt_segment.proofs.Mappings.{image_is, one_called, same_named}
 use Rattle.mt_segment.proofs.mapped.map_by_name.Goals as goal
 
 pub returns-clause-tables : goal.returns-clause-tables
@@ -13,8 +12,4 @@ returns-clause-same g c =
 
 pub returns-clause-calls : goal.returns-clause-calls
 returns-clause-calls g c =
-    on_ok_weaker c.mapped_tables.result (calls_counted g.M.Mapper.calls c.args.mappers.now _ _ _ c.index-mappers-at.result _ c.in-Some.ensures.found c.in-Some.ensures.within) c.mapped_tables.ensures.calls
-
-pub returns-clause-halfway : goal.returns-clause-halfway
-returns-clause-halfway g c =
-    on_err_weaker c.mapped_tables.result (calls_halfway g.M.Mapper.calls c.args.mappers.now _ _ _ c.index-mappers-at.result _ c.in-Some.ensures.found c.in-Some.ensures.within) c.mapped_tables.ensures.halfway
+    one_called g.M.Mapper.calls c.args.mappers.now c.in-Some.at _ _ c.index-mappers-at.result c.mapped_tables.new.mapper c.mapped_tables.result c.in-Some.ensures.found c.in-Some.ensures.within c.mapped_tables.ensures.calls

@@ -1,16 +1,21 @@
-use Rattle.std.proofs.Common.{ℕ, ◌∙◌, ap, arith}
+use Rattle.std.proofs.Common.{ℕ, ◌+◌, length, ◌∙◌, ap, arith}
 use Rattle.mt_mapper.specs.Calls.{counted}
-use Rattle.mt_mapper.proofs.Counts.{halfway, counted_more}
+use Rattle.mt_mapper.proofs.Counts.{counted_more}
+use Rattle.mt_segment.proofs.Calls.{called_all, called_some}
 use Rattle.mt_segment.proofs.Mappings.{images_more}
 use Rattle.mt_segment.proofs.mapped.number_images.Goals as goal
 
-pub returns-in_err-map-clause-halfway : goal.returns-in_err-map-clause-halfway
-returns-in_err-map-clause-halfway g c =
-    halfway c.from_residual-in_err-map.result _ _ c.loop-id.id _ _ c.loop-id.invariant.calls c.map.ensures.calls (omega arith)
+pub returns-in_err-map-clause-calls : goal.returns-in_err-map-clause-calls
+returns-in_err-map-clause-calls g c =
+    let m = g.M.Mapper in
+    called_some (length c.args.lexicon.now) (c.loop-id.id + 1) (m.calls c.args.mapper.now) (m.calls c.map.new.self) c.from_residual-in_err-map.result c.from_residual-in_err-map.ensures.0 (omega (arith, c.loop-id-test.true, c.len-id-end.ensures.number))
+    (c.map.ensures.calls ∙ ap (λ (n : ℕ). counted n 1) c.loop-id.invariant.calls ∙ counted_more (m.calls c.args.mapper.now) c.loop-id.id 1)
 
-pub returns-in_err-push-clause-halfway : goal.returns-in_err-push-clause-halfway
-returns-in_err-push-clause-halfway g c =
-    halfway c.from_residual-in_err-push.result _ _ c.loop-id.id _ _ c.loop-id.invariant.calls c.map.ensures.calls (omega arith)
+pub returns-in_err-push-clause-calls : goal.returns-in_err-push-clause-calls
+returns-in_err-push-clause-calls g c =
+    let m = g.M.Mapper in
+    called_some (length c.args.lexicon.now) (c.loop-id.id + 1) (m.calls c.args.mapper.now) (m.calls c.map.new.self) c.from_residual-in_err-push.result c.from_residual-in_err-push.ensures.0 (omega (arith, c.loop-id-test.true, c.len-id-end.ensures.number))
+    (c.map.ensures.calls ∙ ap (λ (n : ℕ). counted n 1) c.loop-id.invariant.calls ∙ counted_more (m.calls c.args.mapper.now) c.loop-id.id 1)
 
 pub loop-id-preserved : goal.loop-id-preserved
 loop-id-preserved g c =

@@ -1,10 +1,10 @@
 use Rattle.std.proofs.Common.{refl, arith, slice_index}
-use Rattle.mt_lexicon.proofs.Renumbered.{small, one_changed_more}
+use Rattle.mt_lexicon.proofs.Renumbered.{one_changed_more}
+use Rattle.mt_segment.proofs.Numbered.{not_yet_changed}
 use Rattle.mt_segment.proofs.numbering.renumber.Goals as goal
 
 pub get-requires : goal.get-requires
-get-requires c =
-    small c.args.next.now c.loop-number.numbers c.args.numbers.now c.args.numbers.now c.loop-number.number-index c.loop-number.invariant.count c.loop-number.invariant.left (omega arith) refl c.requires
+get-requires c = not_yet_changed c.args.next.now c.loop-number.numbers c.args.numbers.now c.loop-number.number-index c.loop-number.invariant.count c.loop-number.invariant.left (omega arith) c.requires
 
 pub loop-number-preserved : goal.loop-number-preserved
 loop-number-preserved c =

@@ -1,4 +1,4 @@
-use Rattle.mt_segment.proofs.Standing.{number_low}
+use Rattle.mt_segment_laws.proofs.Standing.{number_low}
 use Rattle.mt_segment.proofs.segment.Segment.value_id.Goals as goal
 
 pub returns-clause-within : goal.returns-clause-within
