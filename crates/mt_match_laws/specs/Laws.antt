@@ -1,0 +1,29 @@
+-- Laws of rows and spans.
+use Rattle.std.specs.Prelude.{◌≡◌, List}
+use Rattle.mt_text_spec.specs.Registries.{Registry}
+use Rattle.mt_text_spec.specs.Texts.{Text, Span, Row}
+use Rattle.mt_text_spec.specs.Queries.{Expr, Query}
+use Rattle.mt_match_spec.specs.Values.{Images}
+use Rattle.mt_match_spec.specs.Rows.{Rows}
+use Rattle.mt_match_spec.specs.Kept.{Kept, Spans}
+
+-- an expression has a list of its rows over any texts
+abbrev pub HaveRows : Type 0
+HaveRows = (images : Images) (registry : Registry) (corpus : List Text) (expr : Expr) → (rows : List Row) × Rows images registry corpus expr rows
+
+-- a query has a list of the rows that it keeps, and of its spans
+abbrev pub HaveKept : Type 0
+HaveKept = (images : Images) (registry : Registry) (corpus : List Text) (query : Query) → (rows : List Row) × Kept images registry corpus query rows
+
+abbrev pub HaveSpans : Type 0
+HaveSpans = (images : Images) (registry : Registry) (corpus : List Text) (query : Query) → (spans : List Span) × Spans images registry corpus query spans
+
+-- each of them is one only
+abbrev pub RowsAreOne : Type 0
+RowsAreOne = (images : Images) (registry : Registry) (corpus : List Text) (expr : Expr) (rows others : List Row) → Rows images registry corpus expr rows → Rows images registry corpus expr others → rows ≡ others
+
+abbrev pub KeptAreOne : Type 0
+KeptAreOne = (images : Images) (registry : Registry) (corpus : List Text) (query : Query) (rows others : List Row) → Kept images registry corpus query rows → Kept images registry corpus query others → rows ≡ others
+
+abbrev pub SpansAreOne : Type 0
+SpansAreOne = (images : Images) (registry : Registry) (corpus : List Text) (query : Query) (spans others : List Span) → Spans images registry corpus query spans → Spans images registry corpus query others → spans ≡ others
