@@ -1,0 +1,45 @@
+-- Why a command is refused, and the line that says so. Lines stand here without their line feeds.
+use Rattle.std.specs.Prelude.{ℕ, List, ◌∷◌, ◌++◌, codes}
+use Rattle.std.specs.Fmt.{decimal}
+use Rattle.mt_file_spec.specs.RegistryFile.{RegistryCause, registry_cause}
+use Rattle.mt_file_spec.specs.Vertical.{TextCause, text_cause}
+
+-- why a command is refused
+pub data Refusal : Type 0 where
+  BadCommand : Refusal
+  CutShort : Refusal
+  RegistryLate : Refusal
+  NameTaken : (name : List ℕ) → Refusal
+  NoSuchFile : (file : List ℕ) → Refusal
+  FileTooLong : (file : List ℕ) → Refusal
+  BadRegistry : (line : ℕ) (cause : RegistryCause) → Refusal
+  NoAttribute : Refusal
+  BadVertical : (line : ℕ) (cause : TextCause) → Refusal
+  UnknownName : (name : List ℕ) → Refusal
+  CorpusFull : Refusal
+
+-- the line that answers a refused command
+abbrev pub refusal_line : Refusal → List ℕ
+refusal_line BadCommand = codes "! 10 BadCommand"
+refusal_line CutShort = codes "! 11 CutShort"
+refusal_line RegistryLate = codes "! 12 RegistryLate"
+refusal_line (NameTaken name) = codes "! 13 NameTaken " ++ name
+refusal_line (NoSuchFile file) = codes "! 14 NoSuchFile " ++ file
+refusal_line (FileTooLong file) = codes "! 15 FileTooLong " ++ file
+refusal_line (BadRegistry line cause) = codes "! 16 BadRegistry " ++ decimal line ++ 32 ∷ registry_cause cause
+refusal_line NoAttribute = codes "! 16 BadRegistry 0 NoAttribute"
+refusal_line (BadVertical line cause) = codes "! 17 BadVertical " ++ decimal line ++ 32 ∷ text_cause cause
+refusal_line (UnknownName name) = codes "! 19 UnknownName " ++ name
+refusal_line CorpusFull = codes "! 23 CorpusFull"
+
+-- the line that tells that a call of the shelf at this file failed
+abbrev pub failure_line : List ℕ → List ℕ
+failure_line file = codes "! 29 ShelfFailed " ++ file
+
+-- the line that tells that memory was wanted
+abbrev pub no_memory_line : List ℕ
+no_memory_line = codes "! 30 NoMemory"
+
+-- the line that answers an accepted command which has nothing else to say
+abbrev pub ok_line : List ℕ
+ok_line = codes "ok"

@@ -1,0 +1,14 @@
+pub mod Never
+pub mod Checks
+pub mod Texts
+pub mod Registries
+pub mod Standard
+pub mod Worlds
+pub mod Literals
+pub mod Said
+pub mod Failures
+pub mod Somes
+pub mod Ones
+pub mod Keeps
+pub mod Meanings
+pub mod Items

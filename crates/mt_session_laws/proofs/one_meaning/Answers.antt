@@ -1,0 +1,12 @@
+use Rattle.mt_session_laws.proofs.Meanings.{one_meaning}
+use Rattle.mt_session_laws.proofs.one_meaning.Goals as goal
+
+pub returns : goal.returns
+returns c = one_meaning (record {
+  one_text = c.one_text.ensures;
+  no_text_with_fault = c.no_text_with_fault.ensures;
+  one_fault = c.one_fault.ensures;
+  one_registry = c.one_registry.ensures;
+  one_registry_fault = c.one_registry_fault.ensures;
+  apart = c.one_registry_answer.ensures;
+})

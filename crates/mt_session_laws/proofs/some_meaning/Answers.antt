@@ -1,0 +1,5 @@
+use Rattle.mt_session_laws.proofs.Meanings.{some_meaning}
+use Rattle.mt_session_laws.proofs.some_meaning.Goals as goal
+
+pub returns : goal.returns
+returns c = some_meaning

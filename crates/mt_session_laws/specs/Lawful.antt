@@ -1,0 +1,36 @@
+-- What a command owes to the laws.
+use Rattle.std.specs.Prelude.{ℕ, ◌≡◌, ◌≤◌, List, [], ◌∷◌, count_by}
+use Rattle.std.specs.Str.{bytes_eq}
+use Rattle.mt_meaning_spec.specs.World.{World, ValidHeld}
+use Rattle.mt_meaning_spec.specs.Gains.{Gained, none_gained}
+use Rattle.mt_meaning_spec.specs.Refusals.{no_memory_line}
+use Rattle.mt_meaning_spec.specs.Checks.{AreSingle, NoneStands}
+use Rattle.mt_meaning_spec.specs.Answers.{Answer, Refused}
+use Rattle.mt_meaning_spec.specs.Meaning.{Meaning}
+use Rattle.mt_meaning_spec.specs.Laws.{told_failures}
+
+-- where all checks pass, it is not without a change and an answer
+abbrev pub HasSome : Meaning → Type 0
+HasSome meant = NoneStands meant.checks → ((new : World) (answer : Answer) → meant.Accepts new answer → ⊥) → ⊥
+
+-- it has one at most, and each check gives one refusal at most
+pub record HasOne (meant : Meaning) : Type 0 where
+  pub checks : AreSingle meant.checks
+  pub one : (new other : World) (answer another : Answer) → meant.Accepts new answer → meant.Accepts other another → (new ≡ other) × (answer ≡ another)
+
+-- accepted or not, it leaves a valid world
+pub record KeepsValid (meant : Meaning) : Type 0 where
+  pub accepted : NoneStands meant.checks → (new : World) (answer : Answer) → meant.Accepts new answer → ValidHeld new.held
+  pub excepted : (gained : Gained) (new : World) (answer : Answer) → meant.Excepts gained new answer → ValidHeld new.held
+
+-- an answer is no refusal, and an exception is one, which changes nothing that is held; where nothing was gained, that is want of memory
+pub record IsFair (meant : Meaning) (world : World) : Type 0 where
+  pub accepted : (new : World) (line : List ℕ) → meant.Accepts new (Refused line) → ⊥
+  pub kept : (gained : Gained) (new : World) (answer : Answer) → meant.Excepts gained new answer → new.held ≡ world.held
+  pub starved : (new : World) (answer : Answer) → meant.Excepts none_gained new answer → answer ≡ Refused no_memory_line
+
+-- an answer tells of no failure, and an exception of no more than were gained
+pub record TellsGained (meant : Meaning) : Type 0 where
+  pub accepted : (new : World) (answer : Answer) (file : List ℕ) → meant.Accepts new answer → told_failures file (answer ∷ []) ≡ 0
+  pub excepted : (gained : Gained) (new : World) (answer : Answer) (file : List ℕ) → meant.Excepts gained new answer →
+      told_failures file (answer ∷ []) ≤ count_by (λ name. bytes_eq name file) gained.failed

@@ -1,0 +1,86 @@
+//! Laws of the definitions of commands, scripts and replies. Each function proves its law, and does nothing.
+#![tactic(auto)]
+
+ghost use Rattle.mt_meaning_spec.specs.Laws.{
+  SomeMeaning,
+  OneMeaning,
+  StepsKeepValid,
+  RefusedKeep,
+  HeldIsValid,
+  ItemsAreSaid,
+  SomeAnswers,
+  OneAnswers,
+  RepliesAreAnswers,
+  FailuresAreGained,
+};
+
+use mt_registry::{one_registry, one_registry_answer, one_registry_fault, valid_registries};
+use mt_vertical::{no_text_with_fault, one_fault, one_text, valid_texts};
+
+/// No command that can be said is without a meaning in a valid world.
+pub fn some_meaning()
+    ensures { SomeMeaning }
+{}
+
+/// No command has two meanings.
+pub fn one_meaning()
+    ensures { OneMeaning }
+{
+    one_text();
+    no_text_with_fault();
+    one_fault();
+    one_registry();
+    one_registry_fault();
+    one_registry_answer();
+}
+
+/// A command leaves a valid world.
+pub fn steps_keep_valid()
+    ensures { StepsKeepValid }
+{
+    valid_texts();
+    valid_registries();
+}
+
+/// A refused command changes nothing that is held.
+pub fn refused_keep()
+    ensures { RefusedKeep }
+{}
+
+/// What is held is valid at first, with another text and with another registry.
+pub fn held_is_valid()
+    ensures { HeldIsValid }
+{}
+
+/// The commands of a script are those that can be said.
+pub fn items_are_said()
+    ensures { ItemsAreSaid }
+{}
+
+/// No items that can be said are without answers in a valid world.
+pub fn some_answers()
+    ensures { SomeAnswers }
+{
+    some_meaning();
+    steps_keep_valid();
+}
+
+/// No items have two lists of answers.
+pub fn one_answers()
+    ensures { OneAnswers }
+{
+    one_meaning();
+    steps_keep_valid();
+}
+
+/// Over files that are known, replies in which no call failed and memory lasted are the one answer.
+pub fn replies_are_answers()
+    ensures { RepliesAreAnswers }
+{
+    one_answers();
+}
+
+/// No failure of the shelf licenses two lines that tell of one.
+pub fn failures_are_gained()
+    ensures { FailuresAreGained }
+{}
