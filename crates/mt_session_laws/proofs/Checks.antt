@@ -1,7 +1,7 @@
 -- Laws of checks, whatever they are.
 use Rattle.std.proofs.Common.{◌≡◌, ◌⊎◌, inl, inr, List, [], ◌∷◌, ◌++◌, sym, ◌∙◌}
-use Rattle.mt_meaning_spec.specs.Refusals.{Refusal}
-use Rattle.mt_meaning_spec.specs.Checks.{Check, When, Passes, FirstStands, NoneStands, IsSingle, AreSingle}
+use Rattle.mt_session_spec.specs.Refusals.{Refusal}
+use Rattle.mt_session_spec.specs.Checks.{Check, When, Passes, FirstStands, NoneStands, IsSingle, AreSingle}
 use Rattle.mt_session_laws.proofs.Never.{either}
 
 -- ## One check

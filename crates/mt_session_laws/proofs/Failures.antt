@@ -5,11 +5,11 @@ use Rattle.std.specs.Str.{bytes_eq}
 use Rattle.std.proofs.lemmas.List.{append_cancel_left}
 use Rattle.std.proofs.lemmas.List.Sums.{sum_by-append, sum_by-cons}
 use Rattle.std.proofs.lemmas.Slice.Eq.{bytes_eq-Decides}
-use Rattle.mt_meaning_spec.specs.Gains.{Gained}
-use Rattle.mt_meaning_spec.specs.Refusals as refusal
-use Rattle.mt_meaning_spec.specs.Refusals.{Refusal, refusal_line, failure_line, no_memory_line}
-use Rattle.mt_meaning_spec.specs.Answers.{Answer, Refused, lines_of}
-use Rattle.mt_meaning_spec.specs.Laws.{told_failures}
+use Rattle.mt_session_spec.specs.Gains.{Gained}
+use Rattle.mt_session_spec.specs.Refusals as refusal
+use Rattle.mt_session_spec.specs.Refusals.{Refusal, refusal_line, failure_line, no_memory_line}
+use Rattle.mt_session_spec.specs.Answers.{Answer, Refused, lines_of}
+use Rattle.mt_session_spec.specs.Laws.{told_failures}
 
 -- ## Which lines tell of one
 

@@ -4,14 +4,14 @@ use Rattle.std.specs.List.{All, count_by}
 use Rattle.std.specs.Str.{bytes_eq}
 use Rattle.mt_script_spec.specs.Script.{Item, Given, Bad, CutShort}
 use Rattle.mt_shelf_spec.specs.Files.{Files}
-use Rattle.mt_meaning_spec.specs.World.{World, Held, ValidHeld, first_held}
-use Rattle.mt_meaning_spec.specs.Settings.{Setting}
-use Rattle.mt_meaning_spec.specs.Gains.{Gained, none_gained, gained_then}
-use Rattle.mt_meaning_spec.specs.Refusals.{Refusal, refusal_line, no_memory_line, BadCommand, CutShort as CutShortRefusal}
-use Rattle.mt_meaning_spec.specs.Answers.{Answer, Refused}
-use Rattle.mt_meaning_spec.specs.Steps.{Meant}
-use Rattle.mt_meaning_spec.specs.Replies.{ItemStep, FineItem, IsNoCommand, Known, known_after, Replies, NoReplies, ThenReply, AreAnswers, NoAnswers, ThenAnswer, NoneStarved}
-use Rattle.mt_meaning_spec.specs.Laws.{IsSaidItem, SomeMeaning, OneMeaning, StepsKeepValid, SomeAnswers, OneAnswers, RepliesAreAnswers, FailuresAreGained, told_failures}
+use Rattle.mt_session_spec.specs.World.{World, Held, ValidHeld, first_held}
+use Rattle.mt_session_spec.specs.Settings.{Setting}
+use Rattle.mt_session_spec.specs.Gains.{Gained, none_gained, gained_then}
+use Rattle.mt_session_spec.specs.Refusals.{Refusal, refusal_line, no_memory_line, BadCommand, CutShort as CutShortRefusal}
+use Rattle.mt_session_spec.specs.Answers.{Answer, Refused}
+use Rattle.mt_session_spec.specs.Steps.{Meant}
+use Rattle.mt_session_spec.specs.Replies.{ItemStep, FineItem, IsNoCommand, Known, known_after, Replies, NoReplies, ThenReply, AreAnswers, NoAnswers, ThenAnswer, NoneStarved}
+use Rattle.mt_session_spec.specs.Laws.{IsSaidItem, SomeMeaning, OneMeaning, StepsKeepValid, SomeAnswers, OneAnswers, RepliesAreAnswers, FailuresAreGained, told_failures}
 use Rattle.mt_session_laws.proofs.Failures.{no_failure, one_untold, told_then, gained_split}
 use Rattle.mt_session_laws.proofs.Meanings.{fine_step, told_step}
 use Rattle.mt_session_laws.proofs.Worlds.{first_valid}

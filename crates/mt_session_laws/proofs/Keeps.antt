@@ -9,21 +9,21 @@ use Rattle.mt_vertical.specs.TextLaws.{ValidTexts}
 use Rattle.mt_registry.specs.RegistryLaws.{ValidRegistries}
 use Rattle.mt_script_spec.specs.Commands as command
 use Rattle.mt_script_spec.specs.Commands.{Ask, Command}
-use Rattle.mt_meaning_spec.specs.World.{World, Held, Group, ValidHeld, Holds, with_text}
-use Rattle.mt_meaning_spec.specs.Settings.{Setting, mapper_names}
-use Rattle.mt_meaning_spec.specs.Gains.{Gained, none_gained}
-use Rattle.mt_meaning_spec.specs.Refusals.{failure_line, no_memory_line, ok_line}
-use Rattle.mt_meaning_spec.specs.Checks.{NoneStands}
-use Rattle.mt_meaning_spec.specs.Meaning.{Meaning, Question, LoadsNone, LoadsBehind, Exception, Starved, Blocked, ExceptsQuestion, QuestionStarved, QuestionExcepted, asking, unbuilt}
-use Rattle.mt_meaning_spec.specs.Registering.{registering, registry_front, with_registry}
-use Rattle.mt_meaning_spec.specs.Adding.{texting, adding, AddsText, text_checks, name_checks}
-use Rattle.mt_meaning_spec.specs.Files.{IsFile}
-use Rattle.mt_meaning_spec.specs.Listing.{listing, group_line, group_lines}
-use Rattle.mt_meaning_spec.specs.Quitting.{quitting}
-use Rattle.mt_meaning_spec.specs.Meanings.{meaning, question}
-use Rattle.mt_meaning_spec.specs.Answers.{Answer, Refused, Lines, Last}
-use Rattle.mt_meaning_spec.specs.Steps.{IsSaid}
-use Rattle.mt_meaning_spec.specs.Laws.{told_failures}
+use Rattle.mt_session_spec.specs.World.{World, Held, Group, ValidHeld, Holds, with_text}
+use Rattle.mt_session_spec.specs.Settings.{Setting, mapper_names}
+use Rattle.mt_session_spec.specs.Gains.{Gained, none_gained}
+use Rattle.mt_session_spec.specs.Refusals.{failure_line, no_memory_line, ok_line}
+use Rattle.mt_session_spec.specs.Checks.{NoneStands}
+use Rattle.mt_session_spec.specs.Meaning.{Meaning, Question, LoadsNone, LoadsBehind, Exception, Starved, Blocked, ExceptsQuestion, QuestionStarved, QuestionExcepted, asking, unbuilt}
+use Rattle.mt_session_spec.specs.Registering.{registering, registry_front, with_registry}
+use Rattle.mt_session_spec.specs.Adding.{texting, adding, AddsText, text_checks, name_checks}
+use Rattle.mt_session_spec.specs.Files.{IsFile}
+use Rattle.mt_session_spec.specs.Listing.{listing, group_line, group_lines}
+use Rattle.mt_session_spec.specs.Quitting.{quitting}
+use Rattle.mt_session_spec.specs.Meanings.{meaning, question}
+use Rattle.mt_session_spec.specs.Answers.{Answer, Refused, Lines, Last}
+use Rattle.mt_session_spec.specs.Steps.{IsSaid}
+use Rattle.mt_session_spec.specs.Laws.{told_failures}
 use Rattle.mt_session_laws.specs.Lawful.{KeepsValid, IsFair, TellsGained}
 use Rattle.mt_session_laws.proofs.Worlds.{text_valid, registry_valid}
 use Rattle.mt_session_laws.proofs.Said.{text_name, add_name}

@@ -6,7 +6,7 @@ use Rattle.std.proofs.lemmas.List.{append_cancel_left, append_cancel_right}
 use Rattle.std.proofs.lemmas.List.Elements.{All-weaker}
 use Rattle.std.proofs.lemmas.List.Splits.{slice_split_at}
 use Rattle.mt_text_spec.specs.Words.{IsIdentifier, is_identifier_byte}
-use Rattle.mt_meaning_spec.specs.Counting.{IsLiteral}
+use Rattle.mt_session_spec.specs.Counting.{IsLiteral}
 
 -- no `=` is among these bytes
 abbrev HasNoSign : List ℕ → Type 0

@@ -3,15 +3,15 @@ use Rattle.std.proofs.Common.{◌≡◌, ℕ, ◌≤◌, inl, inr, List, [], ◌
 use Rattle.std.specs.List.{count_by}
 use Rattle.std.specs.Str.{bytes_eq}
 use Rattle.mt_script_spec.specs.Commands.{Command}
-use Rattle.mt_meaning_spec.specs.World.{World, ValidHeld}
-use Rattle.mt_meaning_spec.specs.Settings.{Setting}
-use Rattle.mt_meaning_spec.specs.Gains.{Gained, none_gained}
-use Rattle.mt_meaning_spec.specs.Refusals.{refusal_line, no_memory_line}
-use Rattle.mt_meaning_spec.specs.Meaning.{Meaning}
-use Rattle.mt_meaning_spec.specs.Meanings.{meaning}
-use Rattle.mt_meaning_spec.specs.Answers.{Answer, Refused}
-use Rattle.mt_meaning_spec.specs.Steps.{FineBy, Declined, Accepted, StepBy, Meant, Excepted, Fine, Step}
-use Rattle.mt_meaning_spec.specs.Laws.{SomeMeaning, OneMeaning, StepsKeepValid, RefusedKeep, told_failures}
+use Rattle.mt_session_spec.specs.World.{World, ValidHeld}
+use Rattle.mt_session_spec.specs.Settings.{Setting}
+use Rattle.mt_session_spec.specs.Gains.{Gained, none_gained}
+use Rattle.mt_session_spec.specs.Refusals.{refusal_line, no_memory_line}
+use Rattle.mt_session_spec.specs.Meaning.{Meaning}
+use Rattle.mt_session_spec.specs.Meanings.{meaning}
+use Rattle.mt_session_spec.specs.Answers.{Answer, Refused}
+use Rattle.mt_session_spec.specs.Steps.{FineBy, Declined, Accepted, StepBy, Meant, Excepted, Fine, Step}
+use Rattle.mt_session_spec.specs.Laws.{SomeMeaning, OneMeaning, StepsKeepValid, RefusedKeep, told_failures}
 use Rattle.mt_session_laws.specs.Lawful.{HasSome, HasOne, KeepsValid, IsFair, TellsGained}
 use Rattle.mt_session_laws.proofs.Checks.{first_or_none, one_first, not_both}
 use Rattle.mt_session_laws.proofs.Failures.{one_untold, no_failure}

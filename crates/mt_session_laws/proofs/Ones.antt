@@ -11,17 +11,17 @@ use Rattle.mt_vertical.specs.TextLaws as text
 use Rattle.mt_registry.specs.RegistryLaws as registry
 use Rattle.mt_script_spec.specs.Commands as command
 use Rattle.mt_script_spec.specs.Commands.{Ask, Command}
-use Rattle.mt_meaning_spec.specs.World.{World, Held, ValidHeld, with_text, corpus_of}
-use Rattle.mt_meaning_spec.specs.Settings.{Setting, mapper_names}
-use Rattle.mt_meaning_spec.specs.Refusals.{NameTaken, NoSuchFile, FileTooLong, RegistryLate, BadCommand, CorpusFull, BadVertical, BadRegistry, UnknownName}
-use Rattle.mt_meaning_spec.specs.Checks.{IsSingle, AreSingle}
-use Rattle.mt_meaning_spec.specs.Files.{IsFile, file_checks}
-use Rattle.mt_meaning_spec.specs.Meaning.{asking, unbuilt, unbuilt_question, Question}
-use Rattle.mt_meaning_spec.specs.Registering.{registering, with_registry, SetsRegistry, IsNoRegistry, BadLine as BadRegistryLine, Baseless}
-use Rattle.mt_meaning_spec.specs.Adding.{texting, adding, AddsText, IsNoText, BadLine, text_checks}
-use Rattle.mt_meaning_spec.specs.Counting.{Counts, occurrences, IsUndeclared, Undeclared}
-use Rattle.mt_meaning_spec.specs.Meanings.{meaning, question}
-use Rattle.mt_meaning_spec.specs.Answers.{Answer, Lines}
+use Rattle.mt_session_spec.specs.World.{World, Held, ValidHeld, with_text, corpus_of}
+use Rattle.mt_session_spec.specs.Settings.{Setting, mapper_names}
+use Rattle.mt_session_spec.specs.Refusals.{NameTaken, NoSuchFile, FileTooLong, RegistryLate, BadCommand, CorpusFull, BadVertical, BadRegistry, UnknownName}
+use Rattle.mt_session_spec.specs.Checks.{IsSingle, AreSingle}
+use Rattle.mt_session_spec.specs.Files.{IsFile, file_checks}
+use Rattle.mt_session_spec.specs.Meaning.{asking, unbuilt, unbuilt_question, Question}
+use Rattle.mt_session_spec.specs.Registering.{registering, with_registry, SetsRegistry, IsNoRegistry, BadLine as BadRegistryLine, Baseless}
+use Rattle.mt_session_spec.specs.Adding.{texting, adding, AddsText, IsNoText, BadLine, text_checks}
+use Rattle.mt_session_spec.specs.Counting.{Counts, occurrences, IsUndeclared, Undeclared}
+use Rattle.mt_session_spec.specs.Meanings.{meaning, question}
+use Rattle.mt_session_spec.specs.Answers.{Answer, Lines}
 use Rattle.mt_session_laws.specs.Lawful.{HasOne}
 use Rattle.mt_session_laws.proofs.Checks.{single_when}
 use Rattle.mt_session_laws.proofs.Literals.{one_name, one_value}

@@ -5,8 +5,8 @@ use Rattle.std.proofs.lemmas.List.Elements.{All-nil, All-cons}
 use Rattle.mt_text_spec.specs.Words.{IsName}
 use Rattle.mt_script_spec.specs.Commands.{Command, Text, Add, Batch, Header, Lone, TextHead, RulesHead, BatchHead, HasForm, WithBody, HasLoneForm}
 use Rattle.mt_script_spec.specs.Script.{Item, Whole, Commanded, Refused, Broken, Begins, Nothing, Skips, Then}
-use Rattle.mt_meaning_spec.specs.Steps.{IsSaid}
-use Rattle.mt_meaning_spec.specs.Laws.{IsSaidItem}
+use Rattle.mt_session_spec.specs.Steps.{IsSaid}
+use Rattle.mt_session_spec.specs.Laws.{IsSaidItem}
 
 -- the name of a text is a name
 text_named : (name body line given : List ℕ) (header : Header) → HasForm header line → WithBody header given (Text name body) → IsName name

@@ -8,16 +8,16 @@ use Rattle.mt_text_spec.specs.Registries.{attr_names}
 use Rattle.mt_shelf_spec.specs.Files.{Files}
 use Rattle.mt_script_spec.specs.Commands as command
 use Rattle.mt_script_spec.specs.Commands.{Ask, Command}
-use Rattle.mt_meaning_spec.specs.World.{World, Held}
-use Rattle.mt_meaning_spec.specs.Settings.{Setting, mapper_names}
-use Rattle.mt_meaning_spec.specs.Checks.{NoneStands}
-use Rattle.mt_meaning_spec.specs.Files.{IsAbsent, IsTooLong, IsFile, file_bytes_limit}
-use Rattle.mt_meaning_spec.specs.Meaning.{asking, unbuilt, unbuilt_question, Question}
-use Rattle.mt_meaning_spec.specs.Registering.{registering, BadLine as BadRegistryLine, Baseless}
-use Rattle.mt_meaning_spec.specs.Adding.{adding, AddsText, BadLine, text_checks}
-use Rattle.mt_meaning_spec.specs.Counting.{counting, IsLiteral, Undeclared}
-use Rattle.mt_meaning_spec.specs.Meanings.{meaning, question}
-use Rattle.mt_meaning_spec.specs.Answers.{Answer, Lines}
+use Rattle.mt_session_spec.specs.World.{World, Held}
+use Rattle.mt_session_spec.specs.Settings.{Setting, mapper_names}
+use Rattle.mt_session_spec.specs.Checks.{NoneStands}
+use Rattle.mt_session_spec.specs.Files.{IsAbsent, IsTooLong, IsFile, file_bytes_limit}
+use Rattle.mt_session_spec.specs.Meaning.{asking, unbuilt, unbuilt_question, Question}
+use Rattle.mt_session_spec.specs.Registering.{registering, BadLine as BadRegistryLine, Baseless}
+use Rattle.mt_session_spec.specs.Adding.{adding, AddsText, BadLine, text_checks}
+use Rattle.mt_session_spec.specs.Counting.{counting, IsLiteral, Undeclared}
+use Rattle.mt_session_spec.specs.Meanings.{meaning, question}
+use Rattle.mt_session_spec.specs.Answers.{Answer, Lines}
 use Rattle.mt_session_laws.specs.Lawful.{HasSome}
 use Rattle.mt_session_laws.proofs.Never.{either}
 use Rattle.mt_session_laws.proofs.Texts.{some_text}

@@ -8,8 +8,8 @@ use Rattle.std.proofs.lemmas.List.Elements.{All-nil, All-push}
 use Rattle.std.proofs.lemmas.List.Quantifiers.{all_pairs_push}
 use Rattle.mt_text_spec.specs.Registries.{Registry, ValidRegistry, AreDistinct}
 use Rattle.mt_text_spec.specs.Texts.{Text, ValidText, total_tokens, corpus_texts_limit, corpus_tokens_limit}
-use Rattle.mt_meaning_spec.specs.World.{Held, Group, ValidHeld, Holds, IsFull, with_text, first_held, alone, corpus_of, kept_texts}
-use Rattle.mt_meaning_spec.specs.Registering.{with_registry}
+use Rattle.mt_session_spec.specs.World.{Held, Group, ValidHeld, Holds, IsFull, with_text, first_held, alone, corpus_of, kept_texts}
+use Rattle.mt_session_spec.specs.Registering.{with_registry}
 use Rattle.mt_session_laws.proofs.Standard.{standard_is_valid}
 
 none_differ : AreDistinct []

@@ -1,13 +1,13 @@
 -- What a command owes to the laws.
 use Rattle.std.specs.Prelude.{ℕ, ◌≡◌, ◌≤◌, List, [], ◌∷◌, count_by}
 use Rattle.std.specs.Str.{bytes_eq}
-use Rattle.mt_meaning_spec.specs.World.{World, ValidHeld}
-use Rattle.mt_meaning_spec.specs.Gains.{Gained, none_gained}
-use Rattle.mt_meaning_spec.specs.Refusals.{no_memory_line}
-use Rattle.mt_meaning_spec.specs.Checks.{AreSingle, NoneStands}
-use Rattle.mt_meaning_spec.specs.Answers.{Answer, Refused}
-use Rattle.mt_meaning_spec.specs.Meaning.{Meaning}
-use Rattle.mt_meaning_spec.specs.Laws.{told_failures}
+use Rattle.mt_session_spec.specs.World.{World, ValidHeld}
+use Rattle.mt_session_spec.specs.Gains.{Gained, none_gained}
+use Rattle.mt_session_spec.specs.Refusals.{no_memory_line}
+use Rattle.mt_session_spec.specs.Checks.{AreSingle, NoneStands}
+use Rattle.mt_session_spec.specs.Answers.{Answer, Refused}
+use Rattle.mt_session_spec.specs.Meaning.{Meaning}
+use Rattle.mt_session_spec.specs.Laws.{told_failures}
 
 -- where all checks pass, it is not without a change and an answer
 abbrev pub HasSome : Meaning → Type 0

@@ -1,7 +1,7 @@
 //! Laws of the definitions of commands, scripts and replies. Each function proves its law, and does nothing.
 #![tactic(auto)]
 
-ghost use Rattle.mt_meaning_spec.specs.Laws.{
+ghost use Rattle.mt_session_spec.specs.Laws.{
   SomeMeaning,
   OneMeaning,
   StepsKeepValid,

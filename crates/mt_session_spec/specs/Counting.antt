@@ -4,12 +4,13 @@ use Rattle.std.specs.List.{AllPass, Contains}
 use Rattle.std.specs.Char.{is_ascii_alphanumeric}
 use Rattle.std.specs.Str.{bytes_eq}
 use Rattle.std.specs.Fmt.{decimal}
-use Rattle.mt_text_spec.specs.Lines.{closed}
 use Rattle.mt_text_spec.specs.Words.{IsIdentifier}
 use Rattle.mt_text_spec.specs.Registries.{attr_names, column_of}
 use Rattle.mt_text_spec.specs.Texts.{Text, value_of, tokens_of}
-use Rattle.mt_session_spec.specs.World.{World, corpus_of}
-use Rattle.mt_session_spec.specs.Refusals.{Refusal, BadCommand, CutShort, RegistryLate, NameTaken, NoSuchFile, FileTooLong, BadRegistry, NoAttribute, BadVertical, UnknownName, CorpusFull}
+use Rattle.mt_session_spec.specs.World.{Held, corpus_of}
+use Rattle.mt_session_spec.specs.Refusals.{Refusal, BadCommand, UnknownName}
+use Rattle.mt_session_spec.specs.Checks.{When}
+use Rattle.mt_session_spec.specs.Meaning.{Question, ExceptsNone}
 
 -- The query asks for the tokens with this value of the attribute of this name: it is `[`, the name, `==` and a quote, the value, a quote and `]`.
 -- The value is one or more ASCII letters and digits.
@@ -19,29 +20,30 @@ pub record IsLiteral (cql name value : List ℕ) : Type 0 where
   pub some : 0 < length value
   pub plain : AllPass is_ascii_alphanumeric value
 
+-- the query is of another form
+abbrev pub IsNoLiteral : List ℕ → Type 0
+IsNoLiteral cql = (name value : List ℕ) → IsLiteral cql name value → ⊥
+
+-- the query's name is that of no attribute
+pub data IsUndeclared (held : Held) (cql : List ℕ) : Refusal → Type 0 where
+  Undeclared : (name value : List ℕ) → IsLiteral cql name value → (Contains (attr_names held.registry.attrs) name → ⊥) → IsUndeclared held cql (UnknownName name)
+
 -- how many tokens of the corpus have this value at a base attribute, by its place among the base attributes
 abbrev pub occurrences : List Text → ℕ → List ℕ → ℕ
 occurrences corpus column value = count_by (λ token. bytes_eq (value_of token column) value) (tokens_of corpus)
 
-abbrev pub RefusesCount : World → List ℕ → Refusal → Type 0
-RefusesCount world cql BadCommand = (name value : List ℕ) → IsLiteral cql name value → ⊥
-RefusesCount world cql (UnknownName word) = ((value : List ℕ) × IsLiteral cql word value) × (Contains (attr_names world.held.registry.attrs) word → ⊥)
-RefusesCount world cql CutShort = ⊥
-RefusesCount world cql RegistryLate = ⊥
-RefusesCount world cql (NameTaken name) = ⊥
-RefusesCount world cql (NoSuchFile file) = ⊥
-RefusesCount world cql (FileTooLong file) = ⊥
-RefusesCount world cql (BadRegistry line cause) = ⊥
-RefusesCount world cql NoAttribute = ⊥
-RefusesCount world cql (BadVertical line cause) = ⊥
-RefusesCount world cql CorpusFull = ⊥
-
 -- The number of tokens with the value. While no mapper is at hand, each attribute is a base attribute.
-pub record Counts (world : World) (cql : List ℕ) (new : World) (reply : List ℕ) : Type 0 where
+pub record Counts (held : Held) (cql : List ℕ) (lines : List (List ℕ)) : Type 0 where
   pub name : List ℕ
   pub value : List ℕ
   pub read : IsLiteral cql name value
   pub number : ℕ
-  pub named : slice_get (attr_names world.held.registry.attrs) number ≡ Some name
-  pub same : new ≡ world
-  pub says : reply ≡ closed (codes "= " ++ decimal (occurrences (corpus_of world.held.groups) (column_of world.held.registry.attrs number) value))
+  pub named : slice_get (attr_names held.registry.attrs) number ≡ Some name
+  pub says : lines ≡ (codes "= " ++ decimal (occurrences (corpus_of held.groups) (column_of held.registry.attrs number) value)) ∷ []
+
+abbrev pub counting : Held → List ℕ → Question
+counting held cql = record {
+  checks = When (IsNoLiteral cql) BadCommand ∷ IsUndeclared held cql ∷ [];
+  Answers = Counts held cql;
+  Excepts = ExceptsNone;
+}

@@ -1,9 +1,17 @@
 pub mod World
+pub mod Settings
+pub mod Gains
 pub mod Refusals
+pub mod Checks
+pub mod Answers
 pub mod Files
+pub mod Meaning
 pub mod Registering
 pub mod Adding
 pub mod Counting
+pub mod Listing
+pub mod Quitting
+pub mod Meanings
 pub mod Steps
 pub mod Replies
 pub mod Runs

@@ -1,18 +1,35 @@
 -- What is answered to the items of a script.
-use Rattle.std.specs.Prelude.{ℕ, ◌≡◌, ◌≢◌, List, [], ◌∷◌, ◌++◌, Option, Some, option_map}
+use Rattle.std.specs.Prelude.{◌≡◌, ◌≢◌, List, [], ◌∷◌, Option, Some, option_map}
 use Rattle.std.specs.List.{All}
 use Rattle.mt_script_spec.specs.Commands.{Quit}
 use Rattle.mt_script_spec.specs.Script.{Item, Given, Bad, CutShort}
 use Rattle.mt_shelf_spec.specs.Files.{Files}
 use Rattle.mt_session_spec.specs.World.{Held, World, first_held}
-use Rattle.mt_session_spec.specs.Refusals.{refusal_line, BadCommand, CutShort as CutShortRefusal}
-use Rattle.mt_session_spec.specs.Steps.{Step}
+use Rattle.mt_session_spec.specs.Settings.{Setting}
+use Rattle.mt_session_spec.specs.Gains.{Gained, none_gained, gained_then}
+use Rattle.mt_session_spec.specs.Refusals.{Refusal, refusal_line, no_memory_line, BadCommand, CutShort as CutShortRefusal}
+use Rattle.mt_session_spec.specs.Answers.{Answer, Refused}
+use Rattle.mt_session_spec.specs.Steps.{Fine, Step}
 
--- one item, in which calls of the shelf failed at these names
-abbrev pub ItemStep : World → Item → List (List ℕ) → World → List ℕ → Type 0
-ItemStep world (Given command) failed new reply = Step world command failed new reply
-ItemStep world Bad failed new reply = (new ≡ world) × (reply ≡ refusal_line BadCommand)
-ItemStep world CutShort failed new reply = (new ≡ world) × (reply ≡ refusal_line CutShortRefusal)
+-- ## One item
+
+-- what is no command changes nothing and calls nothing
+pub record IsNoCommand (refusal : Refusal) (world : World) (gained : Gained) (new : World) (answer : Answer) : Type 0 where
+  pub none : gained ≡ none_gained
+  pub same : new ≡ world
+  pub says : answer ≡ Refused (refusal_line refusal)
+
+-- one item, in which the objects outside gained this
+abbrev pub ItemStep : Setting → World → Item → Gained → World → Answer → Type 0
+ItemStep setting world (Given command) gained new answer = Step setting world command gained new answer
+ItemStep setting world Bad gained new answer = IsNoCommand BadCommand world gained new answer
+ItemStep setting world CutShort gained new answer = IsNoCommand CutShortRefusal world gained new answer
+
+-- the same while memory lasts and no call outside fails
+abbrev pub FineItem : Setting → World → Item → World → Answer → Type 0
+FineItem setting world (Given command) new answer = Fine setting world command new answer
+FineItem setting world Bad new answer = IsNoCommand BadCommand world none_gained new answer
+FineItem setting world CutShort new answer = IsNoCommand CutShortRefusal world none_gained new answer
 
 -- ## What is known of the world
 
@@ -35,23 +52,32 @@ abbrev pub known_after : Known → World → Known
 known_after known new = record { held = new.held; files = option_map (λ before. new.files) known.files }
 
 -- One item, with what is known before it and behind it: what it does in a world that may be. Where the files are told, that is one world.
-pub record KnownStep (known : Known) (item : Item) (failed : List (List ℕ)) (next : Known) (reply : List ℕ) : Type 0 where
+pub record KnownStep (setting : Setting) (known : Known) (item : Item) (gained : Gained) (next : Known) (answer : Answer) : Type 0 where
   pub world : World
   pub may_be : MayBe known world
   pub new : World
-  pub step : ItemStep world item failed new reply
+  pub step : ItemStep setting world item gained new answer
   pub behind : next ≡ known_after known new
 
 -- ## Many items
 
--- The output is the reply to each, one after another. The names at which calls of the shelf failed are those of each item in turn, so a failure licenses no reply
--- to another item.
-abbrev pub Replies : List Item → Known → List (List ℕ) → List ℕ → Known → Type 0
-Replies [] known failed output last = (failed ≡ []) × (output ≡ []) × (last ≡ known)
-Replies (item ∷ items) known failed output last =
-    (next : Known) × (here : List (List ℕ)) × (later : List (List ℕ)) × (reply : List ℕ) × (others : List ℕ) ×
-    KnownStep known item here next reply × (failed ≡ here ++ later) × (output ≡ reply ++ others) × Replies items next later others last
+-- The answer to each item in turn. What the objects outside gained is told apart by items, so a failure licenses no answer to another item.
+pub data Replies (setting : Setting) : List Item → Known → Gained → List Answer → Known → Type 0 where
+  NoReplies : (known : Known) → Replies setting [] known none_gained [] known
+  ThenReply : (item : Item) (items : List Item) (known next last : Known) (here later : Gained) (answer : Answer) (answers : List Answer) →
+      KnownStep setting known item here next answer → Replies setting items next later answers last →
+      Replies setting (item ∷ items) known (gained_then here later) (answer ∷ answers) last
+
+-- The answers that the items have in this world while memory lasts and no call outside fails, and the world behind them.
+pub data AreAnswers (setting : Setting) : List Item → World → List Answer → World → Type 0 where
+  NoAnswers : (world : World) → AreAnswers setting [] world [] world
+  ThenAnswer : (item : Item) (items : List Item) (world next last : World) (answer : Answer) (answers : List Answer) →
+      FineItem setting world item next answer → AreAnswers setting items next answers last → AreAnswers setting (item ∷ items) world (answer ∷ answers) last
 
 -- none of these items is a `quit`
 abbrev pub NoQuit : List Item → Type 0
 NoQuit items = All (λ item. item ≢ Given Quit) items
+
+-- no answer tells that memory was wanted
+abbrev pub NoneStarved : List Answer → Type 0
+NoneStarved answers = All (λ answer. answer ≢ Refused no_memory_line) answers

@@ -1,8 +1,8 @@
 -- The world in which a command is given: what the session holds, and the files of the shelf.
 use Rattle.std.specs.Prelude.{ℕ, ◌≡◌, ◌+◌, ◌<◌, ◌≤◌, ◌⊎◌, Bool, true, false, List, [], ◌∷◌, ◌++◌, length, map, Option, None}
-use Rattle.std.specs.List.{Any, filter, flat_map}
-use Rattle.mt_text_spec.specs.Registries.{Registry, standard_registry}
-use Rattle.mt_text_spec.specs.Texts.{Text, total_tokens, corpus_texts_limit, corpus_tokens_limit}
+use Rattle.std.specs.List.{All, Any, filter, flat_map}
+use Rattle.mt_text_spec.specs.Registries.{Registry, standard_registry, ValidRegistry, AreDistinct}
+use Rattle.mt_text_spec.specs.Texts.{Text, ValidText, total_tokens, corpus_texts_limit, corpus_tokens_limit}
 use Rattle.mt_text_spec.specs.Queries.{Grammar}
 use Rattle.mt_shelf_spec.specs.Files.{Files}
 
@@ -51,4 +51,14 @@ abbrev pub alone : Text → Group
 alone text = (text, true) ∷ []
 
 abbrev pub with_text : Held → Text → Held
-with_text held text = record { registry = held.registry; accepted = held.accepted; grammar = held.grammar; groups = held.groups ++ alone text ∷ [] }
+with_text held text = record held { groups = held.groups ++ alone text ∷ [] }
+
+-- ## Valid worlds
+
+-- What is always so: the registry is valid, each text is valid under it, live texts differ in their names, and all texts together are few enough.
+pub record ValidHeld (held : Held) : Type 0 where
+  pub registry : ValidRegistry held.registry
+  pub texts : All (ValidText held.registry) (kept_texts held.groups)
+  pub distinct : AreDistinct (map (λ text. text.name) (corpus_of held.groups))
+  pub few : length (kept_texts held.groups) ≤ corpus_texts_limit
+  pub short : total_tokens (kept_texts held.groups) ≤ corpus_tokens_limit

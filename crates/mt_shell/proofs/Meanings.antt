@@ -1,84 +1,122 @@
 -- What a session's replies mean.
-use Rattle.std.proofs.Common.{◌≡◌, ◌≢◌, ℕ, ◌<◌, ◌≤◌, inl, inr, List, [], ◌∷◌, ◌++◌, length, Option, None, Some, arith, refl, sym, ◌∙◌, IsTrue, false, append-nil}
+use Rattle.std.proofs.Common.{◌≡◌, ◌⊎◌, inl, inr, ℕ, List, [], ◌∷◌, ◌++◌, Option, None, Some, option_map, refl, sym, ◌∙◌, ap, append-nil, IsTrue, false}
 use Rattle.mt_shelf_spec.specs.Files.{Files, no_files}
-use Rattle.mt_script_spec.specs.Commands.{Command, Quit}
-use Rattle.mt_session_spec.specs.World.{World}
-use Rattle.mt_session_spec.specs.Refusals.{Refusal, rank, failure_rank}
-use Rattle.mt_session_spec.specs.Files.{IsAbsent, IsTooLong, IsFile, file_bytes_limit}
-use Rattle.mt_session_spec.specs.Steps.{Refuses, IsRefused, Declined, Loads}
-use Rattle.mt_shell.specs.declared.session.Reply.{Reply}
-use Rattle.mt_shell.specs.declared.session.Reply.TheVariants.{Lines, Last, NoMemory}
+use Rattle.mt_script_spec.specs.Commands.{Command}
+use Rattle.mt_session_spec.specs.World.{Held, World}
+use Rattle.mt_session_spec.specs.Gains.{Gained, none_gained}
+use Rattle.mt_session_spec.specs.Refusals.{Refusal, refusal_line, failure_line, no_memory_line}
+use Rattle.mt_session_spec.specs.Checks.{Check, When, Passes, FirstStands, NoneStands}
+use Rattle.mt_session_spec.specs.Answers as answers
+use Rattle.mt_session_spec.specs.Meaning.{Meaning}
+use Rattle.mt_session_spec.specs.Steps.{StepBy, Meant, Excepted, Declined}
+use Rattle.mt_session_spec.specs.Replies.{Known, known_after}
+use Rattle.mt_session_spec.specs.Runs.{Outside}
+use Rattle.mt_answer.specs.declared.reply.Reply.{Reply}
+use Rattle.mt_answer.specs.declared.reply.Reply.TheVariants.{NoMemory}
+use Rattle.mt_answer.specs.Replies.{SaysOf, SaysNoMemory, Given}
 use Rattle.mt_shell.specs.declared.fetch.Fetched.{Fetched}
 use Rattle.mt_shell.specs.Sights.{Sees}
-use Rattle.mt_shell.specs.Sessions.{Standing, with_files}
-use Rattle.mt_shell.specs.Fetches.{Finds, failures}
-use Rattle.mt_shell.specs.Answers.{Answers, AnswersAlone, Stepped, Declines, TellsFailure}
+use Rattle.mt_shell.specs.Outsides.{known, gains}
+use Rattle.mt_shell.specs.Fetches.{Finds, gained_of}
+use Rattle.mt_shell.specs.Answers.{Answers, AnswersAlone, Stepped, over}
 
 pub not_true : IsTrue false → ⊥
 not_true h = cc
 
--- the reply declines the command by this refusal
-pub declines : (world : World) (command : Command) (failed : List (List ℕ)) (refusal : Refusal) (reply : Reply) → (command ≢ Quit) → IsRefused world command refusal → Declines refusal reply →
-    Answers world command failed reply world
-declines world command failed refusal (Lines line) other r e = (other, inl (rw e (Declined refusal r)))
-declines world command failed refusal (Last line) other r e = absurd e
-declines world command failed refusal NoMemory other r e = refl
+-- ## Checks
 
--- the reply tells that the file could not be read
-pub fails : (world : World) (command : Command) (file : List ℕ) (reply : Reply) → (command ≢ Quit) → Loads command file → ((other : Refusal) → rank other < failure_rank → Refuses world command other → ⊥) →
-    TellsFailure file reply → Answers world command (file ∷ []) reply world
-fails world command file (Lines line) other loads reached e =
-    (other, inr (record { file = file; blocked = record { loads = loads; reached = reached; there = (0, omega arith, refl) }; same = refl; says = e }))
-fails world command file (Last line) other loads reached e = absurd e
-fails world command file NoMemory other loads reached e = refl
+pub no_cause : {cause : Type 0} {refusal : Refusal} → (cause → ⊥) → Passes (When cause refusal)
+no_cause none given w = none w.there
+
+-- the first stands behind a front that passes
+pub first_behind : (front own : List Check) (refusal : Refusal) → NoneStands front → FirstStands own refusal → FirstStands (front ++ own) refusal
+first_behind [] own refusal none f = f
+first_behind (check ∷ front) own refusal none f = inr (none.0, first_behind front own refusal none.1 f)
+
+pub none_both : (front own : List Check) → NoneStands front → NoneStands own → NoneStands (front ++ own)
+none_both [] own none n = n
+none_both (check ∷ front) own none n = (none.0, none_both front own none.1 n)
+
+-- ## Replies
+
+-- the reply is an answer of this meaning
+abbrev pub StepsBy : Meaning → World → Gained → Reply → World → Type 0
+StepsBy meant world gained reply new = SaysOf (λ answer. StepBy meant world gained new answer) reply
+
+-- memory was wanted
+pub starved : (meant : Meaning) (world : World) (gained : Gained) → meant.Excepts gained world (answers.Refused no_memory_line) → StepsBy meant world gained NoMemory world
+starved meant world gained e = record { answer = answers.Refused no_memory_line; says = SaysNoMemory; holds = Excepted world (answers.Refused no_memory_line) e }
+
+-- it is this answer, which is meant, or memory was wanted
+pub given : (meant : Meaning) (world : World) (gained : Gained) (expected : answers.Answer) (reply : Reply) → StepBy meant world gained world expected → meant.Excepts gained world (answers.Refused no_memory_line) →
+    Given expected reply → StepsBy meant world gained reply world
+given meant world gained expected reply s e g = record { answer = g.answer; says = g.says; holds = by g.answer g.holds }
+  where
+    by : (answer : answers.Answer) → (answer ≡ expected) ⊎ (answer ≡ answers.Refused no_memory_line) → StepBy meant world gained world answer
+    by answer (inl is) = rw is s
+    by answer (inr is) = rw is (Excepted world (answers.Refused no_memory_line) e)
+
+-- the command is declined by this refusal
+pub declined : (meant : Meaning) (world : World) (gained : Gained) (refusal : Refusal) (reply : Reply) → FirstStands meant.checks refusal → meant.Excepts gained world (answers.Refused no_memory_line) →
+    Given (answers.Refused (refusal_line refusal)) reply → StepsBy meant world gained reply world
+declined meant world gained refusal reply f e g =
+    given meant world gained (answers.Refused (refusal_line refusal)) reply (Meant world (answers.Refused (refusal_line refusal)) (Declined refusal f)) e g
+
+-- the file could not be read
+pub kept_from : (meant : Meaning) (world : World) (gained : Gained) (file : List ℕ) (reply : Reply) → meant.Excepts gained world (answers.Refused (failure_line file)) →
+    meant.Excepts gained world (answers.Refused no_memory_line) → Given (answers.Refused (failure_line file)) reply → StepsBy meant world gained reply world
+kept_from meant world gained file reply f e g = given meant world gained (answers.Refused (failure_line file)) reply (Excepted world (answers.Refused (failure_line file)) f) e g
 
 -- ## Over a shelf
 
-abbrev seen_files : Option Files → Files
-seen_files None = no_files
-seen_files (Some files) = files
+abbrev known_as : Held → Option Files → Known
+known_as held files = record { held = held; files = files }
 
-seen_agrees : (files : Option Files) (all : Files) → files ≡ Some all → seen_files files ≡ all
-seen_agrees None all e = cc
-seen_agrees (Some files) all e = cc
+-- what is known behind a command that leaves the files as they were
+pub same_known : (known : Known) (held : Held) (files : Files) → ((all : Files) → known.files ≡ Some all → files ≡ all) → known_as held known.files ≡ known_after known (over held files)
+same_known known held files agrees = ap (λ (fs : Option Files). known_as held fs) (same_files known.files agrees)
+  where
+    same_files : (told : Option Files) → ((all : Files) → told ≡ Some all → files ≡ all) → told ≡ option_map (λ before. files) told
+    same_files None agrees = refl
+    same_files (Some all) agrees = ap Some (sym (agrees all refl))
+
+steps : (held new : Held) (command : Command) (reply : Reply) (gained : Gained) (files : Files) (start end : Outside) → ((all : Files) → start.files ≡ Some all → files ≡ all) → end ≡ gains start gained →
+    Answers (over held files) command gained reply (over new files) → Stepped held command reply new start end
+steps held new command reply gained files start end agrees e a =
+    let same : end.files ≡ start.files = ap (λ (o : Outside). o.files) e in
+    record {
+      gained = gained;
+      answer = a.answer;
+      says = a.says;
+      step = record {
+        world = over held files;
+        may_be = record { held = refl; files = agrees };
+        new = over new files;
+        step = a.holds;
+        behind = ap (λ (fs : Option Files). known_as new fs) same ∙ same_known (known held start) new files agrees;
+      };
+      outside = e;
+    }
+
+-- the files that are told, or none
+abbrev pub some_files : Option Files → Files
+some_files None = no_files
+some_files (Some files) = files
+
+pub some_agree : (files : Option Files) (all : Files) → files ≡ Some all → some_files files ≡ all
+some_agree None all e = cc
+some_agree (Some files) all e = cc
+
+pub nothing_more : (start : Outside) → start ≡ gains start none_gained
+nothing_more start = rw (append-nil start.failed, append-nil start.refused) refl
 
 -- a command that looks at no file
-pub steps_alone : (held new : Standing) (command : Command) (reply : Reply) (files : Option Files) (failed : List (List ℕ)) → AnswersAlone held command reply new →
-    Stepped held command reply new files files failed failed
-steps_alone held new command reply files failed a = record {
-  gained = [];
-  grew = sym (append-nil failed);
-  kept = refl;
-  seen = seen_files files;
-  agrees = seen_agrees files;
-  answers = a (seen_files files);
-}
+pub steps_alone : (held new : Held) (command : Command) (reply : Reply) (start : Outside) → AnswersAlone held command reply new → Stepped held command reply new start start
+steps_alone held new command reply start a =
+    steps held new command reply none_gained (some_files start.files) start start (some_agree start.files) (nothing_more start) (a (some_files start.files))
 
 -- one that looks at one
-pub steps_after : (held new : Standing) (command : Command) (reply : Reply) (file : List ℕ) (fetched : Fetched) (files files_after : Option Files) (failed failed_after : List (List ℕ)) →
-    Sees files (λ all. Finds all file fetched) → files_after ≡ files → failed_after ≡ failed ++ failures file fetched →
-    ((all : Files) → Finds all file fetched → Answers (with_files held all) command (failures file fetched) reply (with_files new all)) →
-    Stepped held command reply new files files_after failed failed_after
-steps_after held new command reply file fetched files files_after failed failed_after s k g a = record {
-  gained = failures file fetched;
-  grew = g;
-  kept = k;
-  seen = s.value;
-  agrees = s.agrees;
-  answers = a s.value s.holds;
-}
-
--- ## Files
-
-pub same_bytes : (files : Files) (file a b : List ℕ) → files file ≡ Some a → files file ≡ Some b → a ≡ b
-same_bytes files file a b e f = let h : Some a ≡ Some b = sym e ∙ f in cc
-
-pub not_absent : (files : Files) (file bytes : List ℕ) → files file ≡ Some bytes → IsAbsent files file → ⊥
-not_absent files file bytes e n = let h : Some bytes ≡ None = sym e ∙ n in cc
-
-pub not_long : (files : Files) (file bytes : List ℕ) → IsFile files file bytes → IsTooLong files file → ⊥
-not_long files file bytes f l =
-    let e = same_bytes files file bytes l.bytes f.found l.found in
-    let long : file_bytes_limit < length bytes = rw e l.long in
-    let short : length bytes ≤ file_bytes_limit = f.short in
-    omega arith
+pub steps_after : (held new : Held) (command : Command) (reply : Reply) (file : List ℕ) (fetched : Fetched) (start end : Outside) → Sees start.files (λ files. Finds files file fetched) →
+    end ≡ gains start (gained_of file fetched) →
+    ((files : Files) → Finds files file fetched → Answers (over held files) command (gained_of file fetched) reply (over new files)) → Stepped held command reply new start end
+steps_after held new command reply file fetched start end s e a = steps held new command reply (gained_of file fetched) s.value start end s.agrees e (a s.value s.holds)

@@ -6,52 +6,47 @@ use Rattle.mt_shelf_spec.specs.Files.{Files}
 use Rattle.mt_script_spec.specs.Commands.{Command, Quit}
 use Rattle.mt_script_spec.specs.Script.{Item, Given, Bad, CutShort, ClosedLine, FirstLine, Body, Whole, Commanded, Refused, Broken, Begins, Nothing, Skips, Then, IsRest}
 use Rattle.mt_session_spec.specs.World.{Held}
+use Rattle.mt_session_spec.specs.Settings.{Setting}
+use Rattle.mt_session_spec.specs.Gains.{Gained, none_gained, gained_then}
+use Rattle.mt_session_spec.specs.Answers.{Answer, bytes_of, output_of}
 use Rattle.mt_session_spec.specs.Steps.{IsSaid}
-use Rattle.mt_session_spec.specs.Replies.{Known, KnownStep, Replies, NoQuit}
-use Rattle.mt_session_spec.specs.Runs.{Outside, Seen, Leaves}
+use Rattle.mt_session_spec.specs.Replies.{Known, KnownStep, Replies, NoReplies, ThenReply, NoQuit}
+use Rattle.mt_session_spec.specs.Runs.{Outside, Leaves, InPart}
+use Rattle.mt_outside.specs.Told.{Told}
 use Rattle.mt_script.specs.Seen.{command_of}
 use Rattle.mt_script.specs.declared.command.Next.{Next}
 use Rattle.mt_script.specs.declared.command.Next.TheVariants.{Command as NextCommand, Bad as NextBad, CutShort as NextCutShort, More as NextMore, End as NextEnd, NoMemory as NextNoMemory}
 use Rattle.mt_script.specs.Scans.{Gives}
-use Rattle.mt_script.proofs.Items.{then_begins}
-use Rattle.mt_shell.specs.Reads.{seen, outside, IsTold, Tells, within, Replied, RepliedInPart, Progress, ProgressToQuit, ProgressInPart, item_of, IsSaidNext, IsLast}
+use Rattle.mt_shell.specs.Outsides.{known}
+use Rattle.mt_shell.specs.Reads.{Replied, RepliedInPart, Progress, ProgressToQuit, ProgressInPart, item_of, IsSaidNext, IsLast}
 
 -- ## What is outside
 
--- what is outside after so much
-abbrev pub moved : Outside → List ℕ → Option Files → List (List ℕ) → Outside
-moved start output stored gained = record { written = start.written ++ output; files = stored; failed = start.failed ++ gained }
-
-pub told_now : (held : Option (List ℕ)) (files : Option Files) (failed : List (List ℕ)) (written : List ℕ) → held ≡ Some written → IsTold (seen held files failed) (outside written files failed)
-told_now held files failed written e = record { written = e; files = refl; failed = refl }
-
-pub told_after : (start : Outside) (output : List ℕ) (stored : Option Files) (gained : List (List ℕ)) (end : Seen) → Leaves start output stored gained end → IsTold end (moved start output stored gained)
-told_after start output stored gained end l = record { written = l.written; files = l.files; failed = l.failed }
-
 -- one thing after another
-pub later : (start : Outside) (output : List ℕ) (stored : Option Files) (gained : List (List ℕ)) (more : List ℕ) (files : Option Files) (failed : List (List ℕ)) (end : Seen) →
-    Leaves (moved start output stored gained) more files failed end → Leaves start (output ++ more) files (gained ++ failed) end
-later start output stored gained more files failed end l = record {
-  written = rw (l.written, append_assoc) refl;
-  files = l.files;
-  failed = rw (l.failed, append_assoc) refl;
+pub later : (start : Outside) (written output : List ℕ) (stored : Option Files) (gained : Gained) (at : Outside) (more : List ℕ) (files : Option Files) (gains : Gained) (end : Outside) →
+    Leaves start written output stored gained at → Leaves at (written ++ output) more files gains end → Leaves start written (output ++ more) files (gained_then gained gains) end
+later start written output stored gained at more files gains end l m = record {
+  held = rw (m.held, append_assoc) refl;
+  files = m.files;
+  failed = rw (m.failed, l.failed, append_assoc) refl;
+  refused = rw (m.refused, l.refused, append_assoc) refl;
 }
 
-pub nothing_yet : (start : Outside) (at : Seen) → IsTold at start → Leaves start [] start.files [] at
-nothing_yet start at t = record { written = rw (append-nil start.written) t.written; files = t.files; failed = rw (append-nil start.failed) t.failed }
+pub nothing_yet : (start : Outside) (written : List ℕ) → start.written ≡ Some written → Leaves start written [] start.files none_gained start
+nothing_yet start written e = record { held = rw append-nil e; files = refl; failed = sym (append-nil start.failed); refused = sym (append-nil start.refused) }
 
 -- ## Items without a `quit`
 
 pub none_quits : NoQuit []
 none_quits = All-nil (λ item. item ≢ Given Quit)
 
-one_goes_on : (item : Item) → item ≢ Given Quit → NoQuit (item ∷ [])
+pub one_goes_on : (item : Item) → item ≢ Given Quit → NoQuit (item ∷ [])
 one_goes_on item h = All-cons (λ item. item ≢ Given Quit) item [] h none_quits
 
 pub none_quit : (xs ys : List Item) → NoQuit xs → NoQuit ys → NoQuit (xs ++ ys)
 none_quit xs ys a b = All-append (λ item. item ≢ Given Quit) xs ys a b
 
-front_quits : (n : ℕ) (xs : List Item) → NoQuit xs → NoQuit (take n xs)
+pub front_quits : (n : ℕ) (xs : List Item) → NoQuit xs → NoQuit (take n xs)
 front_quits n xs a = All-take (λ item. item ≢ Given Quit) n xs a
 
 longer : (x : Item) (xs : List Item) (y : Item) (ys : List Item) → length (x ∷ (xs ++ y ∷ ys)) - 1 ≡ suc (length (xs ++ y ∷ ys) - 1)
@@ -69,79 +64,122 @@ before_last xs (y ∷ ys) a b = rw (but_last xs y ys) (none_quit xs (take (lengt
 one_before_last : (item : Item) → NoQuit (take (length (item ∷ []) - 1) (item ∷ []))
 one_before_last item = none_quits
 
+-- ## Answers
+
+pub outputs : (answers more : List Answer) → output_of (answers ++ more) ≡ output_of answers ++ output_of more
+outputs answers more = grind (arith, common_steps)
+
+-- one answer is written whole before these
+part_behind_one : (answer : Answer) (answers : List Answer) (output : List ℕ) → InPart answers output → InPart (answer ∷ answers) (bytes_of answer ++ output)
+part_behind_one answer [] output p = ([], sym (append-nil (bytes_of answer)) ∙ ap (λ (o : List ℕ). bytes_of answer ++ o) (sym p) ∙ sym (append-nil (bytes_of answer ++ output)))
+part_behind_one answer (next ∷ answers) output p = (output, refl, p)
+
+-- answers are written whole before these
+pub in_part_behind : (before answers : List Answer) (output : List ℕ) → InPart answers output → InPart (before ++ answers) (output_of before ++ output)
+in_part_behind [] answers output p = p
+in_part_behind (answer ∷ before) answers output p = rw append_assoc (part_behind_one answer (before ++ answers) (output_of before ++ output) (in_part_behind before answers output p))
+
+-- all of them are written whole
+pub all_in_part : (answers : List Answer) → InPart answers (output_of answers)
+all_in_part answers = let part : InPart (answers ++ []) (output_of answers ++ []) = in_part_behind answers [] [] refl in rw (append-nil answers, append-nil (output_of answers)) at part
+
 -- ## Replies
 
--- the replies to items, and then to others
-pub joined : (xs ys : List Item) (old mid new : Known) (f g : List (List ℕ)) (o p : List ℕ) → Replies xs old f o mid → Replies ys mid g p new → Replies (xs ++ ys) old (f ++ g) (o ++ p) new
-joined [] ys old mid new f g o p r s = rw (r.0, r.1, ← r.2) s
-joined (x ∷ xs) ys old mid new f g o p r s =
-    (r.0, r.1, r.2 ++ g, r.3, r.4 ++ p, r.5, rw (r.6, append_assoc) refl, rw (r.7, append_assoc) refl, joined xs ys r.0 mid new r.2 g r.4 p r.8 s)
+first_of_none : (gained : Gained) → gained_then gained none_gained ≡ gained
+first_of_none gained = ap (λ (f : List (List ℕ)). record { failed = f; refused = gained.refused ++ [] }) (append-nil gained.failed) ∙ ap (λ (r : List (List ℕ)). record { failed = gained.failed; refused = r }) (append-nil gained.refused)
 
-one_reply : (item : Item) (old new : Known) (failed : List (List ℕ)) (reply : List ℕ) → KnownStep old item failed new reply → Replies (item ∷ []) old failed reply new
-one_reply item old new failed reply s = (new, failed, [], reply, [], s, sym (append-nil failed), sym (append-nil reply), (refl, refl, refl))
+gained_on : (a b c : Gained) → gained_then (gained_then a b) c ≡ gained_then a (gained_then b c)
+gained_on a b c = ap (λ (f : List (List ℕ)). record { failed = f; refused = (a.refused ++ b.refused) ++ c.refused }) (append_assoc a.failed b.failed c.failed) ∙
+    ap (λ (r : List (List ℕ)). record { failed = a.failed ++ (b.failed ++ c.failed); refused = r }) (append_assoc a.refused b.refused c.refused)
+
+-- the replies to items, and then to others
+pub joined : {setting : Setting} → (xs ys : List Item) (old mid new : Known) (f g : Gained) (o p : List Answer) → Replies setting xs old f o mid → Replies setting ys mid g p new →
+    Replies setting (xs ++ ys) old (gained_then f g) (o ++ p) new
+joined {setting} xs ys old mid new f g o p (NoReplies same) s = s
+joined {setting} xs ys old mid new f g o p (ThenReply item items first next last here after answer answers step r) s =
+    subst (λ (all : Gained). Replies setting (item ∷ (items ++ ys)) old all (answer ∷ (answers ++ p)) new) (sym (gained_on here after g))
+    (ThenReply item (items ++ ys) old next new here (gained_then after g) answer (answers ++ p) step (joined items ys next mid new after g answers p r s))
+
+pub one_reply : {setting : Setting} → (item : Item) (old new : Known) (gained : Gained) (answer : Answer) → KnownStep setting old item gained new answer →
+    Replies setting (item ∷ []) old gained (answer ∷ []) new
+one_reply {setting} item old new gained answer s =
+    subst (λ (all : Gained). Replies setting (item ∷ []) old all (answer ∷ []) new) (first_of_none gained) (ThenReply item [] old new new gained none_gained answer [] s (NoReplies new))
 
 -- ## Progress
 
+-- the bytes begin with these items, and then with others
+pub then_begins : {ended : Bool} → (a b c : List ℕ) (xs ys : List Item) → Begins ended a xs b → Begins ended b ys c → Begins ended a (xs ++ ys) c
+then_begins a b c xs ys (Nothing bytes) r = r
+then_begins a b c xs ys (Skips bytes line mid items others f s t) r = Skips a line mid (xs ++ ys) c f s (then_begins mid b c xs ys t r)
+then_begins a b c xs ys (Then bytes item mid items others w t) r = Then a item mid (items ++ ys) c w (then_begins mid b c items ys t r)
+
 -- nothing was answered yet
-pub none_yet : {ended : Bool} → (bytes : List ℕ) (held : Held) (start : Outside) (at : Seen) → IsTold at start → Progress ended bytes bytes held held start at
-none_yet bytes held start at t = record {
+pub none_yet : {ended : Bool} → (bytes : List ℕ) (held : Held) (start : Outside) (written : List ℕ) → start.written ≡ Some written → Progress ended bytes bytes held held start written start
+none_yet bytes held start written e = record {
   items = [];
-  failed = [];
-  output = [];
-  stored = start.files;
+  gained = none_gained;
+  answers = [];
   taken = Nothing bytes;
   no_quit = none_quits;
-  replies = (refl, refl, refl);
-  leaves = nothing_yet start at t;
+  replies = NoReplies (known held start);
+  leaves = nothing_yet start written e;
 }
 
+-- one answer more is written whole
+one_leaves : (start : Outside) (written : List ℕ) (answers : List Answer) (gained : Gained) (at : Outside) (answer : Answer) (files : Option Files) (gains : Gained) (end : Outside) →
+    Leaves start written (output_of answers) at.files gained at → Leaves at (written ++ output_of answers) (bytes_of answer) files gains end →
+    Leaves start written (output_of (answers ++ answer ∷ [])) files (gained_then gained gains) end
+one_leaves start written answers gained at answer files gains end l m =
+    let are : output_of answers ++ bytes_of answer ≡ output_of (answers ++ answer ∷ []) = sym (outputs answers (answer ∷ []) ∙ ap (λ (one : List ℕ). output_of answers ++ one) (append-nil (bytes_of answer))) in
+    subst (λ (output : List ℕ). Leaves start written output files (gained_then gained gains) end) are
+    (later start written (output_of answers) at.files gained at (bytes_of answer) files gains end l m)
+
 -- one item more
-pub one_more : {ended : Bool} → (a b c : List ℕ) (item : Item) (old mid new : Held) (start : Outside) (at end : Seen) → Progress ended a b old mid start at →
-    Begins ended b (item ∷ []) c → item ≢ Given Quit → Tells at (λ here. Replied mid item new here end) → Progress ended a c old new start end
-one_more a b c item old mid new start at end p t ne told =
-    let r = told (moved start p.output p.stored p.failed) (told_after start p.output p.stored p.failed at p.leaves) in
+pub one_more : {ended : Bool} → (a b c : List ℕ) (item : Item) (old mid new : Held) (start : Outside) (written : List ℕ) (at end : Outside) → Progress ended a b old mid start written at →
+    Begins ended b (item ∷ []) c → item ≢ Given Quit → Told at.written (λ here. Replied mid item new at here end) → Progress ended a c old new start written end
+one_more a b c item old mid new start written at end p t ne told =
+    let r = told (written ++ output_of p.answers) p.leaves.held in
     record {
       items = p.items ++ item ∷ [];
-      failed = p.failed ++ r.failed;
-      output = p.output ++ r.reply;
-      stored = r.stored;
+      gained = gained_then p.gained r.gained;
+      answers = p.answers ++ r.answer ∷ [];
       taken = then_begins a b c p.items (item ∷ []) p.taken t;
       no_quit = none_quit p.items (item ∷ []) p.no_quit (one_goes_on item ne);
-      replies = joined p.items (item ∷ []) (within old start) (record { held = mid; files = p.stored }) (record { held = new; files = r.stored }) p.failed r.failed p.output r.reply p.replies
-          (one_reply item (record { held = mid; files = p.stored }) (record { held = new; files = r.stored }) r.failed r.reply r.step);
-      leaves = later start p.output p.stored p.failed r.reply r.stored r.failed end r.leaves;
+      replies = joined p.items (item ∷ []) (known old start) (known mid at) (known new end) p.gained r.gained p.answers (r.answer ∷ []) p.replies
+          (one_reply item (known mid at) (known new end) r.gained r.answer r.step);
+      leaves = one_leaves start written p.answers p.gained at r.answer end.files r.gained end p.leaves r.leaves;
     }
 
 -- and then a `quit`
-pub quit_more : {ended : Bool} → (a b c : List ℕ) (old mid new : Held) (start : Outside) (at end : Seen) → Progress ended a b old mid start at →
-    Begins ended b (Given Quit ∷ []) c → Tells at (λ here. Replied mid (Given Quit) new here end) → ProgressToQuit ended a old start end
-quit_more a b c old mid new start at end p t told =
-    let r = told (moved start p.output p.stored p.failed) (told_after start p.output p.stored p.failed at p.leaves) in
+quit_more : {ended : Bool} → (a b c : List ℕ) (old mid new : Held) (start : Outside) (written : List ℕ) (at end : Outside) → Progress ended a b old mid start written at →
+    Begins ended b (Given Quit ∷ []) c → Told at.written (λ here. Replied mid (Given Quit) new at here end) → ProgressToQuit ended a old start written end
+quit_more a b c old mid new start written at end p t told =
+    let r = told (written ++ output_of p.answers) p.leaves.held in
     record {
       items = p.items;
       others = c;
-      failed = p.failed ++ r.failed;
-      output = p.output ++ r.reply;
-      last = record { held = new; files = r.stored };
+      gained = gained_then p.gained r.gained;
+      answers = p.answers ++ r.answer ∷ [];
+      last = known new end;
       taken = then_begins a b c p.items (Given Quit ∷ []) p.taken t;
       no_quit = p.no_quit;
-      replies = joined p.items (Given Quit ∷ []) (within old start) (record { held = mid; files = p.stored }) (record { held = new; files = r.stored }) p.failed r.failed p.output r.reply p.replies
-          (one_reply (Given Quit) (record { held = mid; files = p.stored }) (record { held = new; files = r.stored }) r.failed r.reply r.step);
-      leaves = later start p.output p.stored p.failed r.reply r.stored r.failed end r.leaves;
+      replies = joined p.items (Given Quit ∷ []) (known old start) (known mid at) (known new end) p.gained r.gained p.answers (r.answer ∷ []) p.replies
+          (one_reply (Given Quit) (known mid at) (known new end) r.gained r.answer r.step);
+      leaves = one_leaves start written p.answers p.gained at r.answer end.files r.gained end p.leaves r.leaves;
     }
 
-pub quit_at : {ended : Bool} → (a b c : List ℕ) (item : Item) (old mid new : Held) (start : Outside) (at end : Seen) → Progress ended a b old mid start at →
-    Begins ended b (item ∷ []) c → item ≡ Given Quit → Tells at (λ here. Replied mid item new here end) → ProgressToQuit ended a old start end
-quit_at {ended} a b c item old mid new start at end p t e told =
-    quit_more a b c old mid new start at end p (subst (λ (i : Item). Begins ended b (i ∷ []) c) e t) (subst (λ (i : Item). Tells at (λ here. Replied mid i new here end)) e told)
+pub quit_at : {ended : Bool} → (a b c : List ℕ) (item : Item) (old mid new : Held) (start : Outside) (written : List ℕ) (at end : Outside) → Progress ended a b old mid start written at →
+    Begins ended b (item ∷ []) c → item ≡ Given Quit → Told at.written (λ here. Replied mid item new at here end) → ProgressToQuit ended a old start written end
+quit_at {ended} a b c item old mid new start written at end p t e told =
+    quit_more a b c old mid new start written at end p (subst (λ (i : Item). Begins ended b (i ∷ []) c) e t) (subst (λ (i : Item). Told at.written (λ here. Replied mid i new at here end)) e told)
 
 -- lines that stand for nothing more
-pub and_rest : {ended : Bool} → (a b c : List ℕ) (old mid : Held) (start : Outside) (at : Seen) → Progress ended a b old mid start at → Begins ended b [] c → Progress ended a c old mid start at
-and_rest a b c old mid start at p t = record {
+pub and_rest : {ended : Bool} → (a b c : List ℕ) (old mid : Held) (start : Outside) (written : List ℕ) (at : Outside) → Progress ended a b old mid start written at → Begins ended b [] c →
+    Progress ended a c old mid start written at
+and_rest a b c old mid start written at p t = record {
   items = p.items;
-  failed = p.failed;
-  output = p.output;
-  stored = p.stored;
+  gained = p.gained;
+  answers = p.answers;
   taken = rw (← append-nil p.items) (then_begins a b c p.items [] p.taken t);
   no_quit = p.no_quit;
   replies = p.replies;
@@ -149,40 +187,74 @@ and_rest a b c old mid start at p t = record {
 }
 
 -- one item more, whose reply was written in part
-pub one_in_part : {ended : Bool} → (a b c : List ℕ) (item : Item) (old mid : Held) (start : Outside) (at end : Seen) → Progress ended a b old mid start at →
-    Begins ended b (item ∷ []) c → Tells at (λ here. RepliedInPart mid item here end) → ProgressInPart ended a old start end
-one_in_part a b c item old mid start at end p t told =
-    let r = told (moved start p.output p.stored p.failed) (told_after start p.output p.stored p.failed at p.leaves) in
+one_in_part : {ended : Bool} → (a b c : List ℕ) (item : Item) (old mid : Held) (start : Outside) (written : List ℕ) (at end : Outside) → Progress ended a b old mid start written at →
+    Begins ended b (item ∷ []) c → Told at.written (λ here. RepliedInPart mid item at here end) → ProgressInPart ended a old start written end
+one_in_part a b c item old mid start written at end p t told =
+    let r = told (written ++ output_of p.answers) p.leaves.held in
     record {
       items = p.items ++ item ∷ [];
       others = c;
-      failed = p.failed ++ r.failed;
-      output = p.output ++ r.front;
-      unwritten = r.unwritten;
-      last = r.new;
+      gained = gained_then p.gained r.gained;
+      answers = p.answers ++ r.answer ∷ [];
+      last = r.last;
+      output = output_of p.answers ++ r.front;
       taken = then_begins a b c p.items (item ∷ []) p.taken t;
       no_quit = before_last p.items (item ∷ []) p.no_quit (one_before_last item);
-      replies = rw append_assoc (joined p.items (item ∷ []) (within old start) (record { held = mid; files = p.stored }) r.new p.failed r.failed p.output (r.front ++ r.unwritten) p.replies
-          (one_reply item (record { held = mid; files = p.stored }) r.new r.failed (r.front ++ r.unwritten) r.step));
-      leaves = later start p.output p.stored p.failed r.front r.new.files r.failed end r.leaves;
+      replies = joined p.items (item ∷ []) (known old start) (known mid at) r.last p.gained r.gained p.answers (r.answer ∷ []) p.replies
+          (one_reply item (known mid at) r.last r.gained r.answer r.step);
+      part = in_part_behind p.answers (r.answer ∷ []) r.front (r.unwritten, r.are);
+      leaves = later start written (output_of p.answers) at.files p.gained at r.front r.last.files r.gained end p.leaves r.leaves;
     }
 
 -- nothing more was written
-pub none_in_part : {ended : Bool} → (a b : List ℕ) (old mid : Held) (start : Outside) (at end : Seen) → Progress ended a b old mid start at →
-    Tells at (λ here. Leaves here [] here.files [] end) → ProgressInPart ended a old start end
-none_in_part a b old mid start at end p told = record {
-  items = p.items;
-  others = b;
-  failed = p.failed;
-  output = p.output;
-  unwritten = [];
-  last = record { held = mid; files = p.stored };
-  taken = p.taken;
-  no_quit = front_quits (length p.items - 1) p.items p.no_quit;
-  replies = rw append-nil p.replies;
-  leaves = rw (append-nil p.output, append-nil p.failed) at
-      (later start p.output p.stored p.failed [] p.stored [] end (told (moved start p.output p.stored p.failed) (told_after start p.output p.stored p.failed at p.leaves)));
+none_in_part : {ended : Bool} → (a b : List ℕ) (old mid : Held) (start : Outside) (written : List ℕ) (at end : Outside) → Progress ended a b old mid start written at →
+    Told at.written (λ here. Leaves at here [] at.files none_gained end) → ProgressInPart ended a old start written end
+none_in_part a b old mid start written at end p told =
+    let leaves : Leaves start written (output_of p.answers ++ []) at.files (gained_then p.gained none_gained) end =
+    later start written (output_of p.answers) at.files p.gained at [] at.files none_gained end p.leaves (told (written ++ output_of p.answers) p.leaves.held) in
+    record {
+      items = p.items;
+      others = b;
+      gained = p.gained;
+      answers = p.answers;
+      last = known mid at;
+      output = output_of p.answers;
+      taken = p.taken;
+      no_quit = front_quits (length p.items - 1) p.items p.no_quit;
+      replies = p.replies;
+      part = all_in_part p.answers;
+      leaves = record {
+        held = rw append-nil at leaves.held;
+        files = leaves.files;
+        failed = rw append-nil at leaves.failed;
+        refused = rw append-nil at leaves.refused;
+      };
+    }
+
+-- nothing was read for want of memory
+pub nothing_done : {ended : Bool} → (bytes : List ℕ) (held : Held) (start : Outside) (written : List ℕ) → start.written ≡ Some written → ProgressInPart ended bytes held start written start
+nothing_done bytes held start written e = record {
+  items = [];
+  others = bytes;
+  gained = none_gained;
+  answers = [];
+  last = known held start;
+  output = [];
+  taken = Nothing bytes;
+  no_quit = none_quits;
+  replies = NoReplies (known held start);
+  part = refl;
+  leaves = nothing_yet start written e;
 }
+
+-- an error at the item that comes next, or where none came for want of memory
+pub part_at : {ended : Bool} → (next : Option Item) (a b c : List ℕ) (old mid : Held) (start : Outside) (written : List ℕ) (at end : Outside) → Progress ended a b old mid start written at →
+    ((item : Item) → next ≡ Some item → Begins ended b (item ∷ []) c) →
+    Told at.written (λ here. MatchOption next (Leaves at here [] at.files none_gained end) (λ item. RepliedInPart mid item at here end)) → ProgressInPart ended a old start written end
+part_at None a b c old mid start written at end p t told = none_in_part a b old mid start written at end p told
+part_at (Some item) a b c old mid start written at end p t told = one_in_part a b c item old mid start written at end p (t item refl) told
+
+-- ## What comes next
 
 -- what next gives is its item
 pub gives_item : (ended : Bool) (old new : List ℕ) (next : Next) (item : Item) → Gives ended old next new → item_of next ≡ Some item → Begins ended old (item ∷ []) new
@@ -229,28 +301,6 @@ never_longer a b items (Then bytes item mid more others w t) = let one = whole_s
 pub item_shortens : {ended : Bool} → (a b : List ℕ) (item : Item) (items : List Item) → Begins ended a (item ∷ items) b → length b < length a
 item_shortens {ended} a b item items (Skips bytes line mid more others f s t) = let one = line_shortens ended a line mid f in let two = item_shortens mid b item items t in omega (arith, one, two)
 item_shortens a b item items (Then bytes item' mid more others w t) = let one = whole_shortens a item mid w in let two = never_longer mid b items t in omega (arith, one, two)
-
--- nothing was read for want of memory
-pub nothing_done : {ended : Bool} → (bytes : List ℕ) (held : Held) (start : Outside) (at : Seen) → IsTold at start → ProgressInPart ended bytes held start at
-nothing_done bytes held start at t = record {
-  items = [];
-  others = bytes;
-  failed = [];
-  output = [];
-  unwritten = [];
-  last = within held start;
-  taken = Nothing bytes;
-  no_quit = none_quits;
-  replies = (refl, refl, refl);
-  leaves = nothing_yet start at t;
-}
-
--- an error at the item that comes next, or where none came for want of memory
-pub part_at : {ended : Bool} → (next : Option Item) (a b c : List ℕ) (old mid : Held) (start : Outside) (at end : Seen) → Progress ended a b old mid start at →
-    ((item : Item) → next ≡ Some item → Begins ended b (item ∷ []) c) → Tells at (λ here. MatchOption next (Leaves here [] here.files [] end) (λ item. RepliedInPart mid item here end)) →
-    ProgressInPart ended a old start end
-part_at None a b c old mid start at end p t told = none_in_part a b old mid start at end p told
-part_at (Some item) a b c old mid start at end p t told = one_in_part a b c item old mid start at end p (t item refl) told
 
 -- a command that comes next is one that some script has
 whole_said : {ended : Bool} → (bytes others : List ℕ) (item : Item) (command : Command) → item ≡ Given command → Whole ended bytes item others → IsSaid command

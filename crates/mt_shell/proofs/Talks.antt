@@ -1,20 +1,25 @@
 -- What a talk has answered.
-use Rattle.std.proofs.Common.{◌≡◌, ℕ, inl, inr, List, [], ◌++◌, Option, None, Some, option_map, Result, Ok, Err, OnErr, IfOk, refl, sym, ◌∙◌, ap, subst, append-nil, ◌⊎◌}
+use Rattle.std.proofs.Common.{◌≡◌, ℕ, List, ◌++◌, Option, None, Some, option_map, Result, Ok, Err, OnErr, IfOk, refl, sym, ◌∙◌, ap, subst, append-nil}
+use Rattle.mt_text_spec.specs.Lines.{closed}
 use Rattle.mt_shelf_spec.specs.Files.{Files}
 use Rattle.mt_script_spec.specs.Commands.{Command}
 use Rattle.mt_script_spec.specs.Script.{Item, Given}
 use Rattle.mt_session_spec.specs.World.{World, Held}
+use Rattle.mt_session_spec.specs.Settings.{bare_setting}
+use Rattle.mt_session_spec.specs.Gains.{Gained, none_gained}
+use Rattle.mt_session_spec.specs.Answers.{Answer, bytes_of}
 use Rattle.mt_session_spec.specs.Refusals.{no_memory_line}
-use Rattle.mt_session_spec.specs.Steps.{Step, Meant, Starved, Blocked, Fine}
 use Rattle.mt_session_spec.specs.Replies.{Known, known_after, ItemStep, KnownStep}
 use Rattle.mt_session_spec.specs.Runs.{Outside}
+use Rattle.mt_outside.specs.Told.{Told}
 use Rattle.mt_outside.specs.declared.sink.SinkError.{SinkError}
+use Rattle.mt_answer.specs.Replies.{Says, SaysRefused, SaysLines, SaysLast, SaysNoMemory}
+use Rattle.mt_answer.specs.declared.reply.Reply.{Reply}
+use Rattle.mt_answer.specs.declared.reply.Reply.TheVariants.{Refused, Lines, Last, NoMemory}
 use Rattle.mt_shell.specs.declared.talk.Flow.{Flow}
-use Rattle.mt_shell.specs.declared.session.Reply.{Reply}
-use Rattle.mt_shell.specs.declared.session.Reply.TheVariants.{Lines, Last, NoMemory}
-use Rattle.mt_shell.specs.Sessions.{Standing, held_of, with_files}
-use Rattle.mt_shell.specs.Answers.{Answers, Stepped, Fails}
-use Rattle.mt_shell.specs.Reads.{seen, IsTold, within, Replied, RepliedInPart, WroteFront, Flows}
+use Rattle.mt_shell.specs.Answers.{Stepped}
+use Rattle.mt_shell.specs.Outsides.{known, writes_on}
+use Rattle.mt_shell.specs.Reads.{Replied, RepliedInPart, WroteFront, Flows}
 
 -- a fact that holds holds after an error
 pub always : {T E : Type 0} → (r : Result T E) → {P : Type 0} → P → OnErr r P
@@ -23,13 +28,14 @@ always (Err e) p = p
 
 -- ## What is known
 
+-- what is known where the shelf tells these files or none
 abbrev known_as : Held → Option Files → Known
 known_as held files = record { held = held; files = files }
 
 -- what is known behind an item that leaves the files as they were
-same_known : (known : Known) (held : Held) (files : Files) → ((all : Files) → known.files ≡ Some all → files ≡ all) →
-    known_as held known.files ≡ known_after known (record { held = held; files = files })
-same_known known held files agrees = ap (λ (fs : Option Files). known_as held fs) (same_files known.files agrees)
+same_known : (held : Held) (told : Option Files) (files : Files) → ((all : Files) → told ≡ Some all → files ≡ all) →
+    known_as held told ≡ known_after (known_as held told) (record { held = held; files = files })
+same_known held told files agrees = ap (λ (fs : Option Files). known_as held fs) (same_files told agrees)
   where
     same_files : (told : Option Files) → ((all : Files) → told ≡ Some all → files ≡ all) → told ≡ option_map (λ before. files) told
     same_files None agrees = refl
@@ -46,99 +52,106 @@ some_agree None all e = cc
 some_agree (Some files) all e = cc
 
 -- a line that is no command, or a body cut short: the shelf is not asked
-plain_step : (held : Held) (item : Item) (reply : List ℕ) (start : Outside) → ((world : World) → ItemStep world item [] world reply) → KnownStep (within held start) item [] (within held start) reply
-plain_step held item reply start s = record {
-  world = record { held = held; files = some_files start.files };
-  may_be = record { held = refl; files = some_agree start.files };
-  new = record { held = held; files = some_files start.files };
-  step = s (record { held = held; files = some_files start.files });
-  behind = same_known (within held start) held (some_files start.files) (some_agree start.files);
+plain_step : (held : Held) (item : Item) (answer : Answer) (told : Option Files) → ((world : World) → ItemStep bare_setting world item none_gained world answer) →
+    KnownStep bare_setting (known_as held told) item none_gained (known_as held told) answer
+plain_step held item answer told s = record {
+  world = record { held = held; files = some_files told };
+  may_be = record { held = refl; files = some_agree told };
+  new = record { held = held; files = some_files told };
+  step = s (record { held = held; files = some_files told });
+  behind = same_known held told (some_files told) (some_agree told);
 }
 
-pub plain_reply : (held : Held) (item : Item) (reply bytes : List ℕ) (written after : Option (List ℕ)) (files : Option Files) (failed : List (List ℕ)) (start : Outside) →
-    ((world : World) → ItemStep world item [] world reply) → bytes ≡ reply → IsTold (seen written files failed) start → after ≡ Some (start.written ++ bytes) →
-    Replied held item held start (seen after files failed)
-plain_reply held item reply bytes written after files failed start s e t w = record {
-  reply = reply;
-  failed = [];
-  stored = start.files;
-  step = plain_step held item reply start s;
-  leaves = record { written = w ∙ ap (λ (r : List ℕ). Some (start.written ++ r)) e; files = t.files; failed = rw append-nil t.failed };
+-- the same behind it, where the shelf tells as before
+step_to : (old : Known) (item : Item) (gained : Gained) (held : Held) (files told : Option Files) (answer : Answer) → told ≡ files → KnownStep bare_setting old item gained (known_as held files) answer →
+    KnownStep bare_setting old item gained (known_as held told) answer
+step_to old item gained held files told answer e s = subst (λ (fs : Option Files). KnownStep bare_setting old item gained (known_as held fs) answer) (sym e) s
+
+pub plain_reply : (held : Held) (item : Item) (answer : Answer) (bytes : List ℕ) (start end : Outside) (written : List ℕ) →
+    ((world : World) → ItemStep bare_setting world item none_gained world answer) → bytes ≡ bytes_of answer → end ≡ writes_on start end → start.written ≡ Some written →
+    Told start.written (λ all. end.written ≡ Some (all ++ bytes)) → Replied held item held start written end
+plain_reply held item answer bytes start end written s e only h told = record {
+  gained = none_gained;
+  answer = answer;
+  step = step_to (known held start) item none_gained held start.files end.files answer (ap (λ (o : Outside). o.files) only) (plain_step held item answer start.files s);
+  leaves = record {
+    held = told written h ∙ ap (λ (b : List ℕ). Some (written ++ b)) e;
+    files = refl;
+    failed = ap (λ (o : Outside). o.failed) only ∙ sym (append-nil start.failed);
+    refused = ap (λ (o : Outside). o.refused) only ∙ sym (append-nil start.refused);
+  };
 }
 
-pub plain_front : (held : Held) (item : Item) (reply bytes : List ℕ) (written after : Option (List ℕ)) (files : Option Files) (failed : List (List ℕ)) (start : Outside) →
-    ((world : World) → ItemStep world item [] world reply) → bytes ≡ reply → IsTold (seen written files failed) start → WroteFront bytes start.written after →
-    RepliedInPart held item start (seen after files failed)
-plain_front held item reply bytes written after files failed start s e t w =
-    let are : reply ≡ w.front ++ w.unwritten = sym e ∙ w.are in
+pub plain_front : (held : Held) (item : Item) (answer : Answer) (bytes : List ℕ) (start end : Outside) (written : List ℕ) →
+    ((world : World) → ItemStep bare_setting world item none_gained world answer) → bytes ≡ bytes_of answer → end ≡ writes_on start end → start.written ≡ Some written →
+    Told start.written (λ all. WroteFront bytes all end.written) → RepliedInPart held item start written end
+plain_front held item answer bytes start end written s e only h told =
+    let wrote = told written h in
     record {
-      new = within held start;
-      front = w.front;
-      unwritten = w.unwritten;
-      failed = [];
-      step = rw (← are) (plain_step held item reply start s);
-      leaves = record { written = w.written; files = t.files; failed = rw append-nil t.failed };
+      last = known held end;
+      gained = none_gained;
+      answer = answer;
+      front = wrote.front;
+      unwritten = wrote.unwritten;
+      are = sym e ∙ wrote.are;
+      step = step_to (known held start) item none_gained held start.files end.files answer (ap (λ (o : Outside). o.files) only) (plain_step held item answer start.files s);
+      leaves = record {
+        held = wrote.written;
+        files = refl;
+        failed = ap (λ (o : Outside). o.failed) only ∙ sym (append-nil start.failed);
+        refused = ap (λ (o : Outside). o.refused) only ∙ sym (append-nil start.refused);
+      };
     }
 
 -- ## Commands
 
--- what the session answers is a step of the world
-step_of : (world new : World) (command : Command) (failed : List (List ℕ)) (line : List ℕ) → Fine world command new line ⊎ Fails world command failed new line → Step world command failed new line
-step_of world new command failed line (inl fine) = Meant new line fine
-step_of world new command failed line (inr f) = rw (f.same, f.says) (Blocked f.file f.blocked)
+-- the bytes of a reply
+abbrev pub reply_bytes : Reply → List ℕ
+reply_bytes (Refused bytes) = bytes
+reply_bytes (Lines bytes) = bytes
+reply_bytes (Last bytes) = bytes
+reply_bytes NoMemory = closed no_memory_line
 
--- the line that a reply is
-abbrev pub line_of : Reply → List ℕ
-line_of (Lines line) = line
-line_of (Last line) = line
-line_of NoMemory = no_memory_line
+are_said : (reply : Reply) (answer : Answer) → Says reply answer → reply_bytes reply ≡ bytes_of answer
+are_said reply answer (SaysRefused bytes line e) = e ∙ sym (append-nil (closed line))
+are_said reply answer (SaysLines bytes lines e) = e
+are_said reply answer (SaysLast bytes line e) = e ∙ sym (append-nil (closed line))
+are_said reply answer SaysNoMemory = sym (append-nil (closed no_memory_line))
 
-pub answer_step : (world new : World) (command : Command) (failed : List (List ℕ)) (reply : Reply) → Answers world command failed reply new → Step world command failed new (line_of reply)
-answer_step world new command failed (Lines line) a = step_of world new command failed line a.1
-answer_step world new command failed (Last line) a = Meant new line a.1
-answer_step world new command failed NoMemory a = rw a Starved
-
--- the step of a session, with what is known of the files before it and behind it
-known_step : (held new : Standing) (command : Command) (reply : Reply) (files files_after : Option Files) (failed failed_after : List (List ℕ)) (start : Outside) →
-    (s : Stepped held command reply new files files_after failed failed_after) → files ≡ start.files →
-    KnownStep (within (held_of held) start) (Given command) s.gained (record { held = held_of new; files = start.files }) (line_of reply)
-known_step held new command reply files files_after failed failed_after start s e =
-    let agrees : (all : Files) → start.files ≡ Some all → s.seen ≡ all = λ all is. s.agrees all (e ∙ is) in
-    record {
-      world = with_files held s.seen;
-      may_be = record { held = refl; files = agrees };
-      new = with_files new s.seen;
-      step = answer_step (with_files held s.seen) (with_files new s.seen) command s.gained reply s.answers;
-      behind = same_known (within (held_of held) start) (held_of new) s.seen agrees;
-    }
-
-pub whole_reply : (held new : Standing) (command : Command) (reply : Reply) (bytes : List ℕ) (written after : Option (List ℕ)) (files files_after : Option Files) (failed failed_after : List (List ℕ)) (start : Outside) →
-    Stepped held command reply new files files_after failed failed_after → bytes ≡ line_of reply → IsTold (seen written files failed) start → after ≡ Some (start.written ++ bytes) →
-    Replied (held_of held) (Given command) (held_of new) start (seen after files_after failed_after)
-whole_reply held new command reply bytes written after files files_after failed failed_after start s e t w = record {
-  reply = line_of reply;
-  failed = s.gained;
-  stored = start.files;
-  step = known_step held new command reply files files_after failed failed_after start s t.files;
+pub whole_reply : (held new : Held) (command : Command) (reply : Reply) (bytes : List ℕ) (start mid end : Outside) (written : List ℕ) → Stepped held command reply new start mid →
+    bytes ≡ reply_bytes reply → end ≡ writes_on mid end → start.written ≡ Some written → Told mid.written (λ all. end.written ≡ Some (all ++ bytes)) →
+    Replied held (Given command) new start written end
+whole_reply held new command reply bytes start mid end written s e only h told = record {
+  gained = s.gained;
+  answer = s.answer;
+  step = step_to (known held start) (Given command) s.gained new mid.files end.files s.answer (ap (λ (o : Outside). o.files) only) s.step;
   leaves = record {
-    written = w ∙ ap (λ (r : List ℕ). Some (start.written ++ r)) e;
-    files = s.kept ∙ t.files;
-    failed = s.grew ∙ ap (λ (f : List (List ℕ)). f ++ s.gained) t.failed;
+    held = told written (ap (λ (o : Outside). o.written) s.outside ∙ h) ∙ ap (λ (b : List ℕ). Some (written ++ b)) (e ∙ are_said reply s.answer s.says);
+    files = refl;
+    failed = ap (λ (o : Outside). o.failed) only ∙ ap (λ (o : Outside). o.failed) s.outside;
+    refused = ap (λ (o : Outside). o.refused) only ∙ ap (λ (o : Outside). o.refused) s.outside;
   };
 }
 
-pub front_reply : (held new : Standing) (command : Command) (reply : Reply) (bytes : List ℕ) (written after : Option (List ℕ)) (files files_after : Option Files) (failed failed_after : List (List ℕ)) (start : Outside) →
-    Stepped held command reply new files files_after failed failed_after → bytes ≡ line_of reply → IsTold (seen written files failed) start → WroteFront bytes start.written after →
-    RepliedInPart (held_of held) (Given command) start (seen after files_after failed_after)
-front_reply held new command reply bytes written after files files_after failed failed_after start s e t w =
-    let are : line_of reply ≡ w.front ++ w.unwritten = sym e ∙ w.are in
+pub front_reply : (held new : Held) (command : Command) (reply : Reply) (bytes : List ℕ) (start mid end : Outside) (written : List ℕ) → Stepped held command reply new start mid →
+    bytes ≡ reply_bytes reply → end ≡ writes_on mid end → start.written ≡ Some written → Told mid.written (λ all. WroteFront bytes all end.written) →
+    RepliedInPart held (Given command) start written end
+front_reply held new command reply bytes start mid end written s e only h told =
+    let wrote = told written (ap (λ (o : Outside). o.written) s.outside ∙ h) in
     record {
-      new = record { held = held_of new; files = start.files };
-      front = w.front;
-      unwritten = w.unwritten;
-      failed = s.gained;
-      step = rw (← are) (known_step held new command reply files files_after failed failed_after start s t.files);
-      leaves = record { written = w.written; files = s.kept ∙ t.files; failed = s.grew ∙ ap (λ (f : List (List ℕ)). f ++ s.gained) t.failed };
+      last = known new end;
+      gained = s.gained;
+      answer = s.answer;
+      front = wrote.front;
+      unwritten = wrote.unwritten;
+      are = sym (e ∙ are_said reply s.answer s.says) ∙ wrote.are;
+      step = step_to (known held start) (Given command) s.gained new mid.files end.files s.answer (ap (λ (o : Outside). o.files) only) s.step;
+      leaves = record {
+        held = wrote.written;
+        files = refl;
+        failed = ap (λ (o : Outside). o.failed) only ∙ ap (λ (o : Outside). o.failed) s.outside;
+        refused = ap (λ (o : Outside). o.refused) only ∙ ap (λ (o : Outside). o.refused) s.outside;
+      };
     }
 
 -- ## Flows

@@ -1,70 +1,89 @@
 -- What is known of a run at its end, by its status.
-use Rattle.std.specs.Prelude.{ℕ, ◌≡◌, ◌<◌, ◌⊎◌, true, false, List, [], ◌++◌, length, Option, Some}
+use Rattle.std.specs.Prelude.{ℕ, ◌≡◌, ◌<◌, ◌⊎◌, true, false, List, [], ◌++◌, length, Some}
+use Rattle.mt_shelf_spec.specs.Files.{Files}
 use Rattle.mt_outside.specs.Faults.{Rose}
+use Rattle.mt_outside.specs.Told.{Told}
 use Rattle.mt_session_spec.specs.World.{Held, first_held}
-use Rattle.mt_session_spec.specs.Runs.{Outside, Seen, script_bytes_limit, EndsWell, EndsWithFault, EndsTooLong, EndsInPart}
+use Rattle.mt_session_spec.specs.Settings.{bare_setting}
+use Rattle.mt_session_spec.specs.Runs.{Outside, script_bytes_limit, EndsWell, EndsWithFault, EndsTooLong, EndsInPart, AnswersScript}
 use Rattle.mt_shell.specs.declared.top.Status.{Status}
 use Rattle.mt_shell.specs.declared.top.Status.TheVariants.{Done, Usage, SourceFault, SinkFault, ScriptTooLong, NoMemory}
+use Rattle.mt_shell.specs.Outsides.{SameSource, NoFaults}
 use Rattle.mt_shell.specs.Reads.{Progress, ProgressToQuit, ProgressInPart}
 
--- what was read and written
-abbrev pub EndsAs : Status → List ℕ → Option (List ℕ) → Outside → Seen → Type 0
-EndsAs Done input left start end = EndsWell input left start end
-EndsAs Usage input left start end = ⊥
-EndsAs SourceFault input left start end = EndsWithFault input left start end
-EndsAs SinkFault input left start end = EndsInPart input left start end
-EndsAs ScriptTooLong input left start end = EndsTooLong input left start end
-EndsAs NoMemory input left start end = EndsInPart input left start end
+-- what was read and written, where source and sink tell it
+abbrev pub WhereTold : (List ℕ → Outside → List ℕ → Outside → Type 0) → Outside → Outside → Type 0
+WhereTold Ends start end = Told start.left (λ input. Told start.written (λ written. Ends input start written end))
 
--- the cause, by the counts of faults of the source and of the sink
-abbrev pub HasCause : Status → ℕ → ℕ → ℕ → ℕ → Type 0
-HasCause Done source source' sink sink' = Unit {0}
-HasCause Usage source source' sink sink' = ⊥
-HasCause SourceFault source source' sink sink' = Rose source source'
-HasCause SinkFault source source' sink sink' = Rose sink sink'
-HasCause ScriptTooLong source source' sink sink' = Unit {0}
-HasCause NoMemory source source' sink sink' = Unit {0}
+-- A fault of the source or of the sink ends the run, so each count of faults is as it was but where the run ends with its fault.
+abbrev pub FaultsAs : Status → Outside → Outside → Type 0
+FaultsAs Done start end = NoFaults start end
+FaultsAs Usage start end = NoFaults start end
+FaultsAs SourceFault start end = Rose start.source_faults end.source_faults × (end.sink_faults ≡ start.sink_faults)
+FaultsAs SinkFault start end = (end.source_faults ≡ start.source_faults) × Rose start.sink_faults end.sink_faults
+FaultsAs ScriptTooLong start end = NoFaults start end
+FaultsAs NoMemory start end = NoFaults start end
 
--- where the script is too long
-abbrev pub HasLength : Status → List ℕ → Type 0
-HasLength Done input = Unit {0}
-HasLength Usage input = ⊥
-HasLength SourceFault input = Unit {0}
-HasLength SinkFault input = Unit {0}
-HasLength ScriptTooLong input = script_bytes_limit < length input
-HasLength NoMemory input = Unit {0}
+-- what was read and written by a run that ends so
+abbrev pub EndsAs : Status → Outside → Outside → Type 0
+EndsAs Done start end = WhereTold (EndsWell bare_setting) start end
+EndsAs Usage start end = end ≡ start
+EndsAs SourceFault start end = WhereTold (EndsWithFault bare_setting) start end
+EndsAs SinkFault start end = WhereTold (EndsInPart bare_setting) start end
+EndsAs ScriptTooLong start end = WhereTold (EndsTooLong bare_setting) start end
+EndsAs NoMemory start end = WhereTold (EndsInPart bare_setting) start end
+
+-- the script is too long
+abbrev pub IsLong : Outside → Type 0
+IsLong start = Told start.left (λ input. script_bytes_limit < length input)
+
+-- no call of the shelf or of the shop failed
+pub record NoneFailed (start end : Outside) : Type 0 where
+  pub failed : end.failed ≡ start.failed
+  pub refused : end.refused ≡ start.refused
+
+-- what was written are answers to the script, and its one answer where none of them tells that memory was wanted
+abbrev pub IsTheAnswer : Outside → Outside → Type 0
+IsTheAnswer start end = Told start.left (λ input. Told start.written (λ written. Told start.files (λ files. NoneFailed start end → AnswersScript bare_setting input written files end)))
+
+-- a run that ends well has written the answer of its script
+abbrev pub EndsAreAnswers : Type 0
+EndsAreAnswers = (input written : List ℕ) (start end : Outside) (files : Files) → start.files ≡ Some files → NoneFailed start end → EndsWell bare_setting input start written end →
+    AnswersScript bare_setting input written files end
+
+-- ## Parts
 
 -- So many bytes of the input were taken.
-pub record Took (input : List ℕ) (left : Option (List ℕ)) (taken : ℕ) : Type 0 where
+pub record Took (input : List ℕ) (taken : ℕ) (end : Outside) : Type 0 where
   pub front : List ℕ
   pub back : List ℕ
   pub are : input ≡ front ++ back
-  pub rest : left ≡ Some back
+  pub rest : end.left ≡ Some back
   pub count : length front ≡ taken
 
 -- So many bytes of the input were taken, and those that do not wait are answered.
-pub record ReadsOn (input : List ℕ) (left : Option (List ℕ)) (taken : ℕ) (wait : List ℕ) (held : Held) (start : Outside) (end : Seen) : Type 0 where
+pub record ReadsOn (input : List ℕ) (taken : ℕ) (wait : List ℕ) (held : Held) (start : Outside) (written : List ℕ) (end : Outside) : Type 0 where
   pub front : List ℕ
   pub back : List ℕ
   pub are : input ≡ front ++ back
-  pub rest : left ≡ Some back
+  pub rest : end.left ≡ Some back
   pub count : length front ≡ taken
-  pub progress : Progress false front wait first_held held start end
+  pub progress : Progress false front wait first_held held start written end
 
 -- what is answered where the script has ended
-abbrev pub FinishesAs : Status → List ℕ → Held → Held → Outside → Seen → Type 0
-FinishesAs Done bytes old new start end = Progress true bytes [] old new start end ⊎ ProgressToQuit true bytes old start end
-FinishesAs Usage bytes old new start end = ⊥
-FinishesAs SourceFault bytes old new start end = ⊥
-FinishesAs SinkFault bytes old new start end = ProgressInPart true bytes old start end
-FinishesAs ScriptTooLong bytes old new start end = ⊥
-FinishesAs NoMemory bytes old new start end = ProgressInPart true bytes old start end
+abbrev pub FinishesAs : Status → List ℕ → Held → Held → Outside → List ℕ → Outside → Type 0
+FinishesAs Done bytes old new start written end = Progress true bytes [] old new start written end ⊎ ProgressToQuit true bytes old start written end
+FinishesAs Usage bytes old new start written end = ⊥
+FinishesAs SourceFault bytes old new start written end = ⊥
+FinishesAs SinkFault bytes old new start written end = ProgressInPart true bytes old start written end
+FinishesAs ScriptTooLong bytes old new start written end = ⊥
+FinishesAs NoMemory bytes old new start written end = ProgressInPart true bytes old start written end
 
 -- how it ends then
-abbrev pub FinishCause : Status → ℕ → ℕ → Type 0
-FinishCause Done sink sink' = Unit {0}
-FinishCause Usage sink sink' = ⊥
-FinishCause SourceFault sink sink' = ⊥
-FinishCause SinkFault sink sink' = Rose sink sink'
-FinishCause ScriptTooLong sink sink' = ⊥
-FinishCause NoMemory sink sink' = Unit {0}
+abbrev pub FinishCounts : Status → Outside → Outside → Type 0
+FinishCounts Done start end = SameSource start end × (end.sink_faults ≡ start.sink_faults)
+FinishCounts Usage start end = ⊥
+FinishCounts SourceFault start end = ⊥
+FinishCounts SinkFault start end = SameSource start end × Rose start.sink_faults end.sink_faults
+FinishCounts ScriptTooLong start end = ⊥
+FinishCounts NoMemory start end = SameSource start end × (end.sink_faults ≡ start.sink_faults)

@@ -1,6 +1,7 @@
 -- What a command finds of the file that it names.
 use Rattle.std.specs.Prelude.{ℕ, List, [], ◌∷◌}
 use Rattle.mt_shelf_spec.specs.Files.{Files}
+use Rattle.mt_session_spec.specs.Gains.{Gained}
 use Rattle.mt_session_spec.specs.Files.{IsAbsent, IsTooLong, IsFile}
 use Rattle.mt_shell.specs.declared.fetch.Fetched.{Fetched}
 use Rattle.mt_shell.specs.declared.fetch.Fetched.TheVariants.{Whole, Absent, TooLong, Failed, NoMemory}
@@ -20,3 +21,7 @@ failures file Absent = []
 failures file TooLong = []
 failures file Failed = file ∷ []
 failures file NoMemory = []
+
+-- what the objects outside gained by the call
+abbrev pub gained_of : List ℕ → Fetched → Gained
+gained_of file fetched = record { failed = failures file fetched; refused = [] }

@@ -1,9 +1,8 @@
-pub mod Refusals
+pub mod Codes
 pub mod Corpora
 pub mod Sights
-pub mod Sessions
+pub mod Outsides
 pub mod Fetches
-pub mod Literals
 pub mod Answers
 pub mod Reads
 pub mod Words

@@ -1,6 +1,6 @@
 //! The texts that are held.
 
-ghost use Rattle.std.specs.Prelude.{◌≡◌, ◌↔◌, ◌∷◌, [], ◌++◌, length, IsTrue, OnOk, OnErr};
+ghost use Rattle.std.specs.Prelude.{◌≡◌, ◌↔◌, ◌∷◌, [], ◌++◌, length, map, IsTrue, OnOk, OnErr};
 ghost use Rattle.mt_session_spec.specs.World.{alone, corpus_of, IsFull};
 ghost use Rattle.mt_shell.specs.Corpora.{HasName};
 
@@ -88,9 +88,10 @@ impl Corpus {
         }
     }
 
-    /// The texts, in order.
+    /// The texts, in order, each a group of its own.
     pub fn texts(&self) -> &[Text]
-        ensures { result.now ≡ corpus_of self.now }
+        ensures are { result.now ≡ corpus_of self.now }
+        ensures groups { self.now ≡ map alone result.now }
     {
         self.texts.as_slice()
     }

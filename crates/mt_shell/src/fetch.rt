@@ -1,12 +1,14 @@
 //! Reading a file of the shelf.
 
-ghost use Rattle.std.specs.Prelude.{◌≡◌, ◌++◌};
+ghost use Rattle.std.specs.Prelude.{◌≡◌};
 ghost use Rattle.mt_shelf_spec.specs.Files.{Files};
 ghost use Rattle.mt_shell.specs.Sights.{Sees};
-ghost use Rattle.mt_shell.specs.Fetches.{Finds, failures};
+ghost use Rattle.mt_shell.specs.Outsides.{gains};
+ghost use Rattle.mt_shell.specs.Fetches.{Finds, gained_of};
 
+use super::edge::Edge;
 use mt_base::List;
-use mt_outside::{Loaded, Shelf, ShelfError};
+use mt_outside::{Loaded, ShelfError};
 use std::alloc::Global;
 
 /// The most bytes of a file.
@@ -28,13 +30,13 @@ pub enum Fetched {
 }
 
 /// The file of this name, read whole.
-pub fn fetch<F: Shelf>(alloc: Global, file: &str, shelf: &mut F) -> Fetched
-    ensures finds { Sees (F.files shelf.old) (λ files. Finds files file.now result) }
-    ensures files { F.files shelf.new ≡ F.files shelf.old }
-    ensures failed { F.failed shelf.new ≡ F.failed shelf.old ++ failures file.now result }
+pub fn fetch<E: Edge>(alloc: Global, file: &str, edge: &mut E) -> Fetched
+    ensures finds { Sees ((E.seen edge.old).files) (λ files. Finds files file.now result) }
+    ensures gained { E.seen edge.new ≡ gains (E.seen edge.old) (gained_of file.now result) }
+    ensures names { E.names edge.new ≡ E.names edge.old }
 {
     let mut bytes = List::new(alloc);
-    match shelf.load(alloc, file, FILE_BYTES_LIMIT, &mut bytes) {
+    match edge.load(alloc, file, FILE_BYTES_LIMIT, &mut bytes) {
         Ok(Loaded::Whole) => Fetched::Whole(bytes),
         Ok(Loaded::Absent) => Fetched::Absent,
         Ok(Loaded::TooLong) => Fetched::TooLong,

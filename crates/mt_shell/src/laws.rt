@@ -1,8 +1,14 @@
-//! Laws of replies.
+//! Laws of runs.
 
-ghost use Rattle.mt_session_spec.specs.Laws.{FailuresAreGained};
+ghost use Rattle.mt_shell.specs.Ends.{EndsAreAnswers};
 
-/// That no failure of the shelf licenses two replies that tell of one: this function proves it, and does nothing.
-pub fn failures_are_gained()
-    ensures { FailuresAreGained }
-{}
+use mt_session_laws::{items_are_said, replies_are_answers};
+
+/// A run that is done, in which no call of the shelf failed and no reply wanted memory, has written the one answer of its script: this function proves it, and
+/// does nothing.
+pub fn ends_are_answers()
+    ensures { EndsAreAnswers }
+{
+    items_are_said();
+    replies_are_answers();
+}

@@ -2,15 +2,16 @@
 #![tactic(auto)]
 
 mod corpus;
+mod edge;
 mod fetch;
 mod laws;
-mod literal;
-mod refusal;
 mod session;
 mod talk;
 mod top;
 mod writes;
 
-pub use laws::failures_are_gained;
-pub use session::{Reply, Session};
+pub use edge::{Edge, Objects};
+pub use laws::ends_are_answers;
+pub use mt_answer::Reply;
+pub use session::Session;
 pub use top::{Status, run};

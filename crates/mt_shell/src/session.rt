@@ -1,41 +1,29 @@
 //! What is held and what each command does to it.
 
-ghost use Rattle.std.specs.Prelude.{◌≡◌, ◌∷◌, ◌++◌, ◌↔◌, IfOk, IsTrue};
-ghost use Rattle.std.specs.Fmt.{decimal};
-ghost use Rattle.mt_text_spec.specs.Lines.{closed};
+ghost use Rattle.std.specs.Prelude.{◌≡◌, ◌↔◌, IfOk, IsTrue};
 ghost use Rattle.mt_script_spec.specs.Commands as spec;
 ghost use Rattle.mt_session_spec.specs.World.{Holds, first_held};
-ghost use Rattle.mt_session_spec.specs.Refusals as refusals;
 ghost use Rattle.mt_session_spec.specs.Steps.{IsSaid};
+ghost use Rattle.mt_session_spec.specs.Answers as answers;
+ghost use Rattle.mt_session_spec.specs.Refusals.{ok_line as the_ok_line};
 ghost use Rattle.mt_script.specs.Seen.{ask_of, command_of};
-ghost use Rattle.mt_shell.specs.Sessions.{held_of};
-ghost use Rattle.mt_shell.specs.Refusals.{refusal_of};
-ghost use Rattle.mt_shell.specs.Answers.{AnswersAlone, Stepped, KeepsRefused, Declines, IsLastOk, TellsFailure};
+ghost use Rattle.mt_answer.specs.Replies.{Given};
+ghost use Rattle.mt_shell.specs.Answers.{AnswersAlone, Stepped, IsRefusal};
 
 mod adding;
-mod counting;
+mod listing;
 mod registering;
 
 use super::corpus::Corpus;
-use super::refusal::{Refusal, failure};
-use mt_base::{List, NoMemory, Registry, Value};
-use mt_outside::Shelf;
+use super::edge::Edge;
+use mt_answer::{Refusal, Reply, answer, ok_line, refused};
+use mt_base::{NoMemory, Registry, Value};
 use mt_script::{Ask, Command};
+use mt_session_laws::{held_is_valid, refused_keep};
 use std::alloc::Global;
 use std::marker::Model;
 
-/// What is answered to a command.
-#[derive(Debug, Drop)]
-pub enum Reply {
-    /// These bytes, whole lines.
-    Lines(List<u8>),
-    /// These bytes, whole lines, and the run ends with them: the reply to `quit`.
-    Last(List<u8>),
-    /// Memory was wanted, and nothing changed.
-    NoMemory,
-}
-
-/// The registry and the texts that the accepted commands have left.
+/// The registry and the texts that the accepted commands have left, seen as what is held. It holds no grammar yet.
 #[derive(Drop)]
 pub struct Session {
     alloc: Global,
@@ -45,21 +33,26 @@ pub struct Session {
 }
 
 impl Model for Session {
-    ghost use Rattle.mt_text_spec.specs.Registries.{ValidRegistry};
-    ghost use Rattle.mt_shell.specs.Sessions.{Standing};
+    ghost use Rattle.std.specs.Prelude.{None};
+    ghost use Rattle.std.specs.Coded.{codes};
+    ghost use Rattle.mt_shell.specs.Codes.{expr_code, filters_code};
+    ghost use Rattle.mt_session_spec.specs.World.{Held, ValidHeld};
 
-    ghost Value = { Standing };
+    ghost Value = { Held };
 
-    ghost view = { λ s. record { registry = s.registry; accepted = s.accepted; groups = s.corpus } };
+    ghost coded = { Prim.hlevel (codes, expr_code, filters_code) };
 
-    ghost invariant = { λ s. ValidRegistry s.registry };
+    ghost view = { λ s. record { registry = s.registry; accepted = s.accepted; grammar = None; groups = s.corpus } };
+
+    ghost invariant = { λ s. ValidHeld (record { registry = s.registry; accepted = s.accepted; grammar = None; groups = s.corpus }) };
 }
 
 impl Session {
     /// The standard registry, and no texts.
     pub fn new(alloc: Global) -> Result<Self, NoMemory>
-        ensures { IfOk result (λ session. held_of session ≡ first_held) }
+        ensures { IfOk result (λ session. session ≡ first_held) }
     {
+        held_is_valid();
         Ok(Session {
             alloc,
             registry: Registry::standard(alloc)?,
@@ -69,36 +62,38 @@ impl Session {
     }
 
     /// Does what the command says, and answers it.
-    pub fn step<F: Shelf>(&mut self, command: Command, shelf: &mut F) -> Reply
+    pub fn step<E: Edge>(&mut self, command: Command, edge: &mut E) -> Reply
         requires { IsSaid (command_of command) }
-        // The reply and the change are those that the command means, for the files that the shelf tells, and for some files where it tells none.
-        ensures means { Stepped self.old (command_of command) result self.new (F.files shelf.old) (F.files shelf.new) (F.failed shelf.old) (F.failed shelf.new) }
+        // The reply and the change are those that the command means, for the files that the shelf tells, and for some files where it tells none. Nothing is
+        // read or written.
+        ensures means { Stepped self.old (command_of command) result self.new (E.seen edge.old) (E.seen edge.new) }
         // A refused command changes nothing.
-        ensures refused { KeepsRefused self.old result self.new }
+        ensures refused { IsRefusal result → self.new ≡ self.old }
+        ensures names { E.names edge.new ≡ E.names edge.old }
     {
+        refused_keep();
+        let alloc = self.alloc;
         match command {
-            Command::Registry { file } => self.set_registry(&file, shelf),
+            Command::Registry { file } => self.set_registry(&file, edge),
             Command::Text { name, body } => self.add_text(&name, body.as_slice()),
-            Command::Add { name, file } => self.add_file(&name, &file, shelf),
+            Command::Add { name, file } => self.add_file(&name, &file, edge),
             Command::Ask(ask) => self.answer(&ask),
-            Command::Quit => quit(self.alloc),
-            _ => refused(self.alloc, &Refusal::BadCommand),
+            Command::Segments => self.segments(),
+            Command::Quit => quit(alloc),
+            _ => refused(alloc, &Refusal::BadCommand),
         }
     }
 
-    /// Answers a question. Those that are not built yet are refused.
+    /// Answers a question.
     fn answer(&self, ask: &Ask) -> Reply
         ensures { AnswersAlone self.now (spec.Asks (ask_of ask.now)) result self.now }
     {
-        match ask {
-            Ask::Count { cql } => self.count(cql),
-            _ => refused(self.alloc, &Refusal::BadCommand),
-        }
+        answer(self.alloc, &self.registry, self.corpus.texts(), ask)
     }
 
     /// Whether a text with this name is held.
     fn holds(&self, name: &Value) -> bool
-        ensures { IsTrue result ↔ Holds (held_of self.now) name.now }
+        ensures { IsTrue result ↔ Holds self.now name.now }
     {
         self.corpus.holds(name)
     }
@@ -106,44 +101,10 @@ impl Session {
 
 /// The reply to `quit`.
 fn quit(alloc: Global) -> Reply
-    ensures { IsLastOk result }
+    ensures { Given (answers.Last the_ok_line) result }
 {
     match ok_line(alloc) {
         Ok(line) => Reply::Last(line),
         Err(NoMemory) => Reply::NoMemory,
     }
-}
-
-/// The reply to a refused command.
-fn refused(alloc: Global, refusal: &Refusal<'_>) -> Reply
-    ensures { Declines (refusal_of refusal.now) result }
-{
-    match refusal.line(alloc) {
-        Ok(line) => Reply::Lines(line),
-        Err(NoMemory) => Reply::NoMemory,
-    }
-}
-
-/// The reply where a call of the shelf at this file failed.
-fn failed(alloc: Global, file: &Value) -> Reply
-    ensures { TellsFailure file.now result }
-{
-    match failure(alloc, file.as_str()) {
-        Ok(line) => Reply::Lines(line),
-        Err(NoMemory) => Reply::NoMemory,
-    }
-}
-
-/// The reply to an accepted command that has nothing else to say.
-fn ok_line(alloc: Global) -> Result<List<u8>, NoMemory>
-    ensures { IfOk result (λ line. line ≡ refusals.ok_line) }
-{
-    Ok(List::from_vec(String::from_str(alloc, "ok\n")?.into_bytes()))
-}
-
-/// A line of a word and a number.
-fn count_line(alloc: Global, word: &str, count: u128) -> Result<List<u8>, NoMemory>
-    ensures { IfOk result (λ line. line ≡ closed (word.now ++ 32 ∷ decimal count)) }
-{
-    Ok(List::from_vec(format!(in alloc; "{word} {count}\n")?.into_bytes()))
 }

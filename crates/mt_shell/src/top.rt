@@ -1,15 +1,16 @@
 //! The run of a whole script.
 
-ghost use Rattle.std.specs.Prelude.{◌≡◌, ◌≢◌, ◌≤◌, ◌<◌, ◌⊎◌, ◌↔◌, [], length, false, IsTrue};
+ghost use Rattle.std.specs.Prelude.{◌≡◌, ◌≢◌, ◌≤◌, ◌⊎◌, ◌↔◌, [], length, false, IsTrue};
 ghost use Rattle.mt_outside.specs.Told.{Told};
 ghost use Rattle.mt_outside.specs.Faults.{Rose};
-ghost use Rattle.mt_session_spec.specs.Runs.{script_bytes_limit, EndsWell, EndsWithFault, EndsTooLong, EndsInPart};
+ghost use Rattle.mt_session_spec.specs.Runs.{script_bytes_limit};
 ghost use Rattle.mt_session_spec.specs.World.{first_held};
-ghost use Rattle.mt_shell.specs.Sessions.{held_of};
-ghost use Rattle.mt_shell.specs.Reads.{seen, outside, Tells};
+ghost use Rattle.mt_shell.specs.Outsides.{outside};
 ghost use Rattle.mt_shell.specs.Words.{AreGood};
-ghost use Rattle.mt_shell.specs.Ends.{EndsAs, HasCause, HasLength, FinishesAs, FinishCause};
+ghost use Rattle.mt_shell.specs.Ends.{EndsAs, FaultsAs, IsLong, IsTheAnswer, FinishesAs, FinishCounts};
 
+use super::edge::{Edge, Objects};
+use super::laws::ends_are_answers;
 use super::talk::{Flow, Talk};
 use mt_outside::{Failed, Shelf, Sink, SinkError, Source};
 use std::alloc::Global;
@@ -47,25 +48,23 @@ pub fn run<S: Source, K: Sink, F: Shelf>(
     sink: &mut K,
     shelf: &mut F,
 ) -> Status
-    // What is written is the replies to what is read, and where the shelf tells its files, they are those of the last world.
-    ensures done { result ≡ Status.Done → Told (S.left source.old) (λ input. Told (K.held sink.old) (λ written.
-        EndsWell input (S.left source.new) (outside written (F.files shelf.old) (F.failed shelf.old)) (seen (K.held sink.new) (F.files shelf.new) (F.failed shelf.new)))) }
+    // What is read and written: the replies to the script, as far as it was read, over the files of the shelf. The first fault of source or sink ends the run.
+    ensures ends { EndsAs result
+        (outside (S.left source.old) (S.faults source.old) (K.held sink.old) (K.faults sink.old) (F.files shelf.old) (F.failed shelf.old))
+        (outside (S.left source.new) (S.faults source.new) (K.held sink.new) (K.faults sink.new) (F.files shelf.new) (F.failed shelf.new)) }
+    ensures faults { FaultsAs result
+        (outside (S.left source.old) (S.faults source.old) (K.held sink.old) (K.faults sink.old) (F.files shelf.old) (F.failed shelf.old))
+        (outside (S.left source.new) (S.faults source.new) (K.held sink.new) (K.faults sink.new) (F.files shelf.new) (F.failed shelf.new)) }
+    // Where the run is done, no call of the shelf failed and no reply wants memory, the bytes written are the one answer of the script.
+    ensures one { result ≡ Status.Done → IsTheAnswer
+        (outside (S.left source.old) (S.faults source.old) (K.held sink.old) (K.faults sink.old) (F.files shelf.old) (F.failed shelf.old))
+        (outside (S.left source.new) (S.faults source.new) (K.held sink.new) (K.faults sink.new) (F.files shelf.new) (F.failed shelf.new)) }
 
-    // Each other end has its cause, and says what is written then.
+    // Each other end has its cause.
     ensures usage { (result ≡ Status.Usage) ↔ (AreGood words.now → ⊥) }
     ensures untouched { result ≡ Status.Usage → (source.new ≡ source.old) × (sink.new ≡ sink.old) × (shelf.new ≡ shelf.old) }
-    ensures source_failed { result ≡ Status.SourceFault → Rose (S.faults source.old) (S.faults source.new) }
-    ensures source_fault { result ≡ Status.SourceFault → Told (S.left source.old) (λ input. Told (K.held sink.old) (λ written.
-        EndsWithFault input (S.left source.new) (outside written (F.files shelf.old) (F.failed shelf.old)) (seen (K.held sink.new) (F.files shelf.new) (F.failed shelf.new)))) }
-    ensures sink_failed { result ≡ Status.SinkFault → Rose (K.faults sink.old) (K.faults sink.new) }
-    ensures sink_fault { result ≡ Status.SinkFault → Told (S.left source.old) (λ input. Told (K.held sink.old) (λ written.
-        EndsInPart input (S.left source.new) (outside written (F.files shelf.old) (F.failed shelf.old)) (seen (K.held sink.new) (F.files shelf.new) (F.failed shelf.new)))) }
-    ensures is_long { result ≡ Status.ScriptTooLong → Told (S.left source.old) (λ input. script_bytes_limit < length input) }
-    ensures too_long { result ≡ Status.ScriptTooLong → Told (S.left source.old) (λ input. Told (K.held sink.old) (λ written.
-        EndsTooLong input (S.left source.new) (outside written (F.files shelf.old) (F.failed shelf.old)) (seen (K.held sink.new) (F.files shelf.new) (F.failed shelf.new)))) }
-    ensures no_memory { result ≡ Status.NoMemory → Told (S.left source.old) (λ input. Told (K.held sink.old) (λ written.
-        EndsInPart input (S.left source.new) (outside written (F.files shelf.old) (F.failed shelf.old)) (seen (K.held sink.new) (F.files shelf.new) (F.failed shelf.new)))) }
-
+    ensures is_long { result ≡ Status.ScriptTooLong → IsLong
+        (outside (S.left source.old) (S.faults source.old) (K.held sink.old) (K.faults sink.old) (F.files shelf.old) (F.failed shelf.old)) }
     // With good words, no fault and a script that is not too long the run is done, or memory was wanted.
     ensures complete { AreGood words.now → (Rose (S.faults source.old) (S.faults source.new) → ⊥) → (Rose (K.faults sink.old) (K.faults sink.new) → ⊥) →
         Told (S.left source.old) (λ input. length input ≤ script_bytes_limit → (result ≡ Status.Done) ⊎ (result ≡ Status.NoMemory)) }
@@ -79,7 +78,8 @@ pub fn run<S: Source, K: Sink, F: Shelf>(
     let Ok(mut talk) = Talk::new(alloc) else {
         return Status::NoMemory;
     };
-    converse(&mut talk, &mut block, source, sink, shelf)
+    ends_are_answers();
+    converse_over(&mut talk, &mut block, source, sink, shelf)
 }
 
 /// Whether the words of the command line are good.
@@ -89,8 +89,8 @@ fn are_good(words: &[String]) -> bool
     words.is_empty()
 }
 
-/// Reads the script and answers it, up to its limit and one byte more.
-fn converse<S: Source, K: Sink, F: Shelf>(
+/// Reads the script from the source and answers it to the sink, over the files of the shelf.
+fn converse_over<S: Source, K: Sink, F: Shelf>(
     talk: &mut Talk,
     block: &mut [u8],
     source: &mut S,
@@ -98,42 +98,67 @@ fn converse<S: Source, K: Sink, F: Shelf>(
     shelf: &mut F,
 ) -> Status
     requires reader { talk.old.reader ≡ record { bytes = []; ended = false } }
-    requires session { held_of talk.old.session ≡ first_held }
+    requires session { talk.old.session ≡ first_held }
     requires block { length block.old ≡ BLOCK }
-    ensures ends { Told (S.left source.old) (λ input. Tells (seen (K.held sink.old) (F.files shelf.old) (F.failed shelf.old)) (λ start.
-        EndsAs result input (S.left source.new) start (seen (K.held sink.new) (F.files shelf.new) (F.failed shelf.new)))) }
-    ensures cause { HasCause result (S.faults source.old) (S.faults source.new) (K.faults sink.old) (K.faults sink.new) }
-    ensures size { Told (S.left source.old) (λ input. HasLength result input) }
+    ensures ends { EndsAs result
+        (outside (S.left source.old) (S.faults source.old) (K.held sink.old) (K.faults sink.old) (F.files shelf.old) (F.failed shelf.old))
+        (outside (S.left source.new) (S.faults source.new) (K.held sink.new) (K.faults sink.new) (F.files shelf.new) (F.failed shelf.new)) }
+    ensures faults { FaultsAs result
+        (outside (S.left source.old) (S.faults source.old) (K.held sink.old) (K.faults sink.old) (F.files shelf.old) (F.failed shelf.old))
+        (outside (S.left source.new) (S.faults source.new) (K.held sink.new) (K.faults sink.new) (F.files shelf.new) (F.failed shelf.new)) }
+    ensures is_long { result ≡ Status.ScriptTooLong → IsLong
+        (outside (S.left source.old) (S.faults source.old) (K.held sink.old) (K.faults sink.old) (F.files shelf.old) (F.failed shelf.old)) }
+    ensures good { result ≢ Status.Usage }
+{
+    let mut objects = Objects {
+        source,
+        sink,
+        shelf,
+    };
+    converse(talk, block, &mut objects)
+}
+
+/// Reads the script and answers it, up to its limit and one byte more.
+fn converse<E: Edge>(talk: &mut Talk, block: &mut [u8], edge: &mut E) -> Status
+    requires reader { talk.old.reader ≡ record { bytes = []; ended = false } }
+    requires session { talk.old.session ≡ first_held }
+    requires block { length block.old ≡ BLOCK }
+    ensures ends { EndsAs result (E.seen edge.old) (E.seen edge.new) }
+    ensures faults { FaultsAs result (E.seen edge.old) (E.seen edge.new) }
+    ensures is_long { result ≡ Status.ScriptTooLong → IsLong (E.seen edge.old) }
+    ensures good { result ≢ Status.Usage }
+    ensures names { E.names edge.new ≡ E.names edge.old }
 {
     let mut taken = 0;
     while taken < SCRIPT_BYTES_LIMIT {
         let room = BLOCK.min(SCRIPT_BYTES_LIMIT - taken);
-        let Ok(n) = source.read(&mut block[..room]) else {
+        let Ok(n) = edge.read(&mut block[..room]) else {
             return Status::SourceFault;
         };
         if n == 0 {
-            return finish(talk, sink, shelf);
+            return finish(talk, edge);
         }
-        match talk.take(&block[..n], sink, shelf) {
+        match talk.take(&block[..n], edge) {
             Ok(Flow::On) => taken += n,
             Ok(Flow::Over) => return Status::Done,
             Err(error) => return status_of(error),
         }
     }
-    match source.read(&mut block[..1]) {
-        Ok(0) => finish(talk, sink, shelf),
+    match edge.read(&mut block[..1]) {
+        Ok(0) => finish(talk, edge),
         Ok(_) => Status::ScriptTooLong,
         Err(Failed) => Status::SourceFault,
     }
 }
 
 /// Answers what is left where the script has ended.
-fn finish<K: Sink, F: Shelf>(talk: &mut Talk, sink: &mut K, shelf: &mut F) -> Status
-    ensures ends { Tells (seen (K.held sink.old) (F.files shelf.old) (F.failed shelf.old)) (λ start.
-        FinishesAs result talk.old.reader.bytes (held_of talk.old.session) (held_of talk.new.session) start (seen (K.held sink.new) (F.files shelf.new) (F.failed shelf.new))) }
-    ensures cause { FinishCause result (K.faults sink.old) (K.faults sink.new) }
+fn finish<E: Edge>(talk: &mut Talk, edge: &mut E) -> Status
+    ensures ends { Told ((E.seen edge.old).written) (λ written.
+        FinishesAs result talk.old.reader.bytes talk.old.session talk.new.session (E.seen edge.old) written (E.seen edge.new)) }
+    ensures counts { FinishCounts result (E.seen edge.old) (E.seen edge.new) }
+    ensures names { E.names edge.new ≡ E.names edge.old }
 {
-    match talk.finish(sink, shelf) {
+    match talk.finish(edge) {
         Ok(Flow::On) => Status::Done,
         Ok(Flow::Over) => Status::Done,
         Err(error) => status_of(error),

@@ -5,42 +5,44 @@ ghost use Rattle.mt_shelf_spec.specs.Files.{Files};
 ghost use Rattle.mt_text_spec.specs.Registries.{ValidRegistry};
 ghost use Rattle.mt_script_spec.specs.Commands as spec;
 ghost use Rattle.mt_session_spec.specs.Registering.{IsLate};
-ghost use Rattle.mt_shell.specs.Sessions.{held_of, with_files};
-ghost use Rattle.mt_shell.specs.Fetches.{Finds, failures};
-ghost use Rattle.mt_shell.specs.Answers.{Answers, Stepped, SetsTo, ReadsRegistry};
+ghost use Rattle.mt_shell.specs.Fetches.{Finds, gained_of};
+ghost use Rattle.mt_shell.specs.Answers.{Answers, Stepped, SetsRegistry, ReadsRegistry, over};
 
 use super::super::corpus::Corpus;
+use super::super::edge::Edge;
 use super::super::fetch::{Fetched, fetch};
-use super::super::refusal::Refusal;
-use super::{Reply, Session, failed, ok_line, refused};
+use super::Session;
+use mt_answer::{Refusal, Reply, failed, ok_line, refused};
 use mt_base::{List, Registry, Value};
-use mt_outside::Shelf;
-use mt_registry::{RegistryError, read_registry};
+use mt_registry::{RegistryError, one_registry_answer, read_registry};
+use mt_session_laws::held_is_valid;
 
 impl Session {
     /// `registry`: the registry of the file holds from now on.
-    pub fn set_registry<F: Shelf>(&mut self, file: &Value, shelf: &mut F) -> Reply
-        ensures { Stepped self.old (spec.Registry file.now) result self.new (F.files shelf.old) (F.files shelf.new) (F.failed shelf.old) (F.failed shelf.new) }
+    pub fn set_registry<E: Edge>(&mut self, file: &Value, edge: &mut E) -> Reply
+        ensures means { Stepped self.old (spec.Registry file.now) result self.new (E.seen edge.old) (E.seen edge.new) }
+        ensures names { E.names edge.new ≡ E.names edge.old }
     {
         if self.is_late() {
             return refused(self.alloc, &Refusal::RegistryLate);
         }
-        let fetched = fetch(self.alloc, file.as_str(), shelf);
+        let fetched = fetch(self.alloc, file.as_str(), edge);
         self.take_registry(file, fetched)
     }
 
     /// Whether a registry was accepted before, or a text is held. A grammar never is yet.
     fn is_late(&self) -> bool
-        ensures { IsTrue result ↔ IsLate (held_of self.now) }
+        ensures { IsTrue result ↔ IsLate self.now }
     {
         self.accepted || !self.corpus.is_empty()
     }
 
     /// Does with the file what was found of it.
     fn take_registry(&mut self, file: &Value, fetched: Fetched) -> Reply
-        requires { IsLate (held_of self.old) → ⊥ }
-        ensures { (files : Files) → Finds files file.now fetched → Answers (with_files self.old files) (spec.Registry file.now) (failures file.now fetched) result (with_files self.new files) }
+        requires { IsLate self.old → ⊥ }
+        ensures { (files : Files) → Finds files file.now fetched → Answers (over self.old files) (spec.Registry file.now) (gained_of file.now fetched) result (over self.new files) }
     {
+        one_registry_answer();
         match fetched {
             Fetched::Whole(bytes) => self.read_registry(&bytes),
             Fetched::Absent => refused(self.alloc, &Refusal::NoSuchFile(file.as_str())),
@@ -65,14 +67,15 @@ impl Session {
     /// Sets the registry. The reply is made first.
     fn keep_registry(&mut self, registry: Registry) -> Reply
         requires { ValidRegistry registry }
-        ensures { SetsTo self.old registry result self.new }
+        ensures { SetsRegistry self.old registry result self.new }
     {
-        let Ok(reply) = ok_line(self.alloc) else {
+        held_is_valid();
+        let Ok(line) = ok_line(self.alloc) else {
             return Reply::NoMemory;
         };
         self.registry = registry;
         self.accepted = true;
         self.corpus = Corpus::new(self.alloc);
-        Reply::Lines(reply)
+        Reply::Lines(line)
     }
 }

@@ -2,27 +2,23 @@
 use Rattle.std.proofs.Common.{◌≡◌, ◌≤◌, ◌-◌, length, false}
 use Rattle.mt_outside.specs.Told.{Told}
 use Rattle.mt_script_spec.specs.Script.{IsRest}
-use Rattle.mt_shell.specs.Sessions.{held_of}
-use Rattle.mt_shell.specs.Reads.{seen, Tells}
+use Rattle.mt_shell.specs.Outsides.{NoFaults}
 use Rattle.mt_shell.specs.Ends.{Took, ReadsOn}
 use Rattle.mt_shell.proofs.top.converse.Given as goal
 
 abbrev pub invariant-loop-taken : goal.invariant-loop-taken
 invariant-loop-taken g l =
-    let left = g.S.Source.left in
-    let held = g.K.Sink.held in
-    let files = g.F.Shelf.files in
-    let failed = g.F.Shelf.failed in
+    let seen = g.E.Edge.seen in
     record {
-      took : Told (left l.fn.source) (λ input. Took input (left l.source) l.taken);
-      reads : Told (left l.fn.source) (λ input. Tells (seen (held l.fn.sink) (files l.fn.shelf) (failed l.fn.shelf)) (λ start.
-          ReadsOn input (left l.source) l.taken l.talk.reader.bytes (held_of l.talk.session) start (seen (held l.sink) (files l.shelf) (failed l.shelf))));
+      took : Told (seen l.fn.edge).left (λ input. Took input l.taken (seen l.edge));
+      reads : Told (seen l.fn.edge).left (λ input. Told (seen l.fn.edge).written (λ written.
+          ReadsOn input l.taken l.talk.reader.bytes l.talk.session (seen l.fn.edge) written (seen l.edge)));
       ended : l.talk.reader.ended ≡ false;
       rest : IsRest false l.talk.reader.bytes;
       within : l.taken ≤ 268435456;
       block : length l.block ≡ 65536;
-      source_rises : g.S.Source.faults l.fn.source ≤ g.S.Source.faults l.source;
-      sink_rises : g.K.Sink.faults l.fn.sink ≤ g.K.Sink.faults l.sink;
+      faults : NoFaults (seen l.fn.edge) (seen l.edge);
+      names : g.E.Edge.names l.edge ≡ g.E.Edge.names l.fn.edge;
     }
 
 abbrev pub decreases-loop-taken : goal.decreases-loop-taken

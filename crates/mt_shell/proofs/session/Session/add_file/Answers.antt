@@ -1,9 +1,14 @@
 use Rattle.std.proofs.Common.{refl}
-use Rattle.mt_shell.proofs.Adding.{add_taken}
-use Rattle.mt_shell.proofs.Meanings.{steps_alone}
-use Rattle.mt_shell.proofs.session.Session.add_file.Goals as goal
 use Rattle.mt_script_spec.specs.Commands.{Add}
+use Rattle.mt_shell.proofs.Adding.{add_taken}
+use Rattle.mt_shell.proofs.Meanings.{steps_alone, steps_after}
+use Rattle.mt_shell.proofs.session.Session.add_file.Goals as goal
 
-pub returns-then-holds : goal.returns-then-holds
-returns-then-holds g c = steps_alone c.args.self.now c.args.self.now (Add c.args.name.now c.args.file.now) c.refused.result (g.F.Shelf.files c.args.shelf.now) (g.F.Shelf.failed c.args.shelf.now)
+pub returns-then-holds-clause-means : goal.returns-then-holds-clause-means
+returns-then-holds-clause-means g c = steps_alone c.args.self.now c.args.self.now (Add c.args.name.now c.args.file.now) c.refused.result (g.E.Edge.seen c.args.edge.now)
     (add_taken c.args.self.now c.args.name.now c.args.file.now c.refused.result (c.if-holds.ensures.0 refl) (rw c.as_str.ensures at c.refused.ensures))
+
+pub returns-clause-means : goal.returns-clause-means
+returns-clause-means g c =
+    steps_after c.args.self.now c.take_file.new.self (Add c.args.name.now c.args.file.now) c.take_file.result c.args.file.now c.fetch-fetched.result (g.E.Edge.seen c.args.edge.now) (g.E.Edge.seen c.fetch-fetched.new.edge)
+    (rw c.as_str-2.ensures at c.fetch-fetched.ensures.finds) (rw c.as_str-2.ensures at c.fetch-fetched.ensures.gained) c.take_file.ensures

@@ -1,4 +1,4 @@
-use Rattle.mt_shell.proofs.Registering.{good, bad_line, baseless}
+use Rattle.mt_shell.proofs.Registering.{good, bad_line, baseless, unread}
 use Rattle.mt_shell.proofs.session.Session.read_registry.Goals as goal
 
 pub returns-in-Ok : goal.returns-in-Ok
@@ -10,3 +10,6 @@ returns-in-Err-Bad c = bad_line c.args.self.now c.args.bytes.now c.in-Err-Bad.li
 pub returns-in-Err-NoAttribute : goal.returns-in-Err-NoAttribute
 returns-in-Err-NoAttribute c = baseless c.args.self.now c.args.bytes.now c.refused-in-Err-NoAttribute.result (rw (c.in-Err-NoAttribute.field-0-is, c.as_slice.ensures, c.new.ensures) at c.in-Err-NoAttribute.ensures.refused)
     c.refused-in-Err-NoAttribute.ensures
+
+pub returns : goal.returns
+returns c = unread c.args.self.now c.args.bytes.now

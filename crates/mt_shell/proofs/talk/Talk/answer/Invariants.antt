@@ -1,20 +1,20 @@
 -- The items that were taken so far are answered.
-use Rattle.std.proofs.Common.{◌≡◌, ◌≤◌, length}
-use Rattle.mt_shell.specs.Sessions.{held_of}
-use Rattle.mt_shell.specs.Reads.{seen, Tells, Progress}
+use Rattle.std.proofs.Common.{◌≡◌, length}
+use Rattle.mt_outside.specs.Told.{Told}
+use Rattle.mt_shell.specs.Outsides.{SameSource}
+use Rattle.mt_shell.specs.Reads.{Progress}
 use Rattle.mt_shell.proofs.talk.Talk.answer.Given as goal
 
 abbrev pub invariant-loop-next : goal.invariant-loop-next
 invariant-loop-next g l =
-    let held = g.K.Sink.held in
-    let faults = g.K.Sink.faults in
-    let files = g.F.Shelf.files in
-    let failed = g.F.Shelf.failed in
+    let seen = g.E.Edge.seen in
     record {
-      told : Tells (seen (held l.fn.sink) (files l.fn.shelf) (failed l.fn.shelf)) (λ start.
-          Progress l.fn.self.reader.ended l.fn.self.reader.bytes l.self.reader.bytes (held_of l.fn.self.session) (held_of l.self.session) start (seen (held l.sink) (files l.shelf) (failed l.shelf)));
+      told : Told (seen l.fn.edge).written (λ written.
+          Progress l.fn.self.reader.ended l.fn.self.reader.bytes l.self.reader.bytes l.fn.self.session l.self.session (seen l.fn.edge) written (seen l.edge));
       ended : l.self.reader.ended ≡ l.fn.self.reader.ended;
-      rises : faults l.fn.sink ≤ faults l.sink;
+      source : SameSource (seen l.fn.edge) (seen l.edge);
+      faults : (seen l.edge).sink_faults ≡ (seen l.fn.edge).sink_faults;
+      names : g.E.Edge.names l.edge ≡ g.E.Edge.names l.fn.edge;
     }
 
 abbrev pub decreases-loop-next : goal.decreases-loop-next

@@ -1,5 +1,4 @@
 use Rattle.std.proofs.Common.{◌++◌}
-use Rattle.mt_shell.specs.Sessions.{held_of}
 use Rattle.mt_shell.proofs.Runs.{nothing_done}
 use Rattle.mt_shell.proofs.talk.Talk.take.Goals as goal
 
@@ -16,4 +15,4 @@ pub returns-in-Ok-clause-rest : goal.returns-in-Ok-clause-rest
 returns-in-Ok-clause-rest g c = rw (c.in-Ok.ensures.ok, c.requires) at c.answer.ensures.rest
 
 pub returns-in-Err-clause-part : goal.returns-in-Err-clause-part
-returns-in-Err-clause-part g c = λ start h. nothing_done (c.args.self.now.reader.bytes ++ c.args.piece.now) (held_of c.args.self.now.session) start _ h
+returns-in-Err-clause-part g c = λ written h. nothing_done (c.args.self.now.reader.bytes ++ c.args.piece.now) c.args.self.now.session _ written h

@@ -1,0 +1,19 @@
+-- What contracts see of a refusal.
+use Rattle.mt_session_spec.specs.Refusals.{Refusal, BadCommand, RegistryLate, NameTaken, NoSuchFile, FileTooLong, BadRegistry, NoAttribute, BadVertical, UnknownName, CorpusFull}
+use Rattle.mt_registry.specs.RegistryErrors.{registry_cause_of}
+use Rattle.mt_vertical.specs.Causes.{text_cause_of}
+use Rattle.mt_answer.specs.declared.refusal.Refusal.{Refusal as RustRefusal}
+use Rattle.mt_answer.specs.declared.refusal.Refusal.TheVariants as refusal
+
+-- a refusal
+abbrev pub refusal_of : RustRefusal → Refusal
+refusal_of refusal.BadCommand = BadCommand
+refusal_of refusal.RegistryLate = RegistryLate
+refusal_of (refusal.NameTaken name) = NameTaken name.now
+refusal_of (refusal.NoSuchFile file) = NoSuchFile file.now
+refusal_of (refusal.FileTooLong file) = FileTooLong file.now
+refusal_of (refusal.BadRegistry bad) = BadRegistry bad.line (registry_cause_of bad.cause)
+refusal_of refusal.NoAttribute = NoAttribute
+refusal_of (refusal.BadVertical bad) = BadVertical bad.line (text_cause_of bad.cause)
+refusal_of (refusal.UnknownName name) = UnknownName name.now
+refusal_of refusal.CorpusFull = CorpusFull
