@@ -11,7 +11,7 @@ const FIRST: &str = "text a 3\nthe\ncat\nthe\ncount [word==\"the\"]\n";
 const FIRST_REPLIES: &str = "ok 3\n= 2\n";
 
 /// Scripts with their replies. Each ends well.
-const SCRIPTS: [(&str, &str); 22] = [
+const SCRIPTS: [(&str, &str); 23] = [
     ("", ""),
     (FIRST, FIRST_REPLIES),
     ("text a 3\nthe\n", "! 11 CutShort\n"),
@@ -55,6 +55,10 @@ const SCRIPTS: [(&str, &str); 22] = [
     ("batch 33\ntext a 1\nx\n", "! 10 BadCommand\nok 1\n"),
     ("rules 1\n", "! 11 CutShort\n"),
     ("text a 2\nx\n\ntext b 2\nx\nx", "ok 1\nok 2\n"),
+    (
+        "segments\ntext a 2\nx\ny\ntext b 0\nsegments\n",
+        "= 0\nok 2\nok 0\n= 2\n1 2\n1 0\n",
+    ),
 ];
 
 fn bytes(alloc: Global, text: &[u8]) -> Result<List<u8>, AllocError> {
