@@ -1,5 +1,5 @@
 -- Positions that were sorted, each kept once.
-use Rattle.std.proofs.Common.{ℕ, ◌≡◌, ◌+◌, ◌<◌, ◌↔◌, eqb, List, ◌++◌, Result, Ok, Err, length, get_or, sym, ap, subst, arith}
+use Rattle.std.proofs.Common.{ℕ, ◌≡◌, ◌<◌, ◌↔◌, eqb, List, ◌++◌, Result, Ok, Err, length, get_or, sym, ap, subst, arith}
 use Rattle.std.specs.List.{All, Contains, dedup}
 use Rattle.std.specs.List.Sorted.{IsPermutation}
 use Rattle.std.specs.Result.{IfOk, OnOk, OnErr}

@@ -3,7 +3,8 @@ use Rattle.std.proofs.Common.{ℕ, zero, suc, ◌≡◌, ◌≢◌, ◌+◌, ◌
 use Rattle.std.specs.Int.{from_be_bytes, w64}
 use Rattle.std.proofs.Math.Nat.{mod-eq_of_lt}
 use Rattle.std.proofs.Math.Seq.{take-append-add}
-use Rattle.std.proofs.lemmas.Nat.{shl_whole, shr_below, shr_split, pow_pos, pow-add, mod_below, be_bytes_8, le-div, shr-shr}
+use Rattle.std.proofs.lemmas.Nat.{shl_whole, shr_below, shr_split, pow_pos, pow-add, mod_below, be_bytes_8, le-div, shr-shr, leading_top}
+use lib.Count.{count_leading_zeros}
 use Rattle.std.proofs.lemmas.Bool.{cases_lt}
 use Rattle.std.proofs.lemmas.List.{length-append, length-replicate, append-nil, take_at, drop_at, take-append-le, take-take, take-append-drop, take-replicate, length-drop, drop-drop, length-take-le, drop-append-le, drop-take, replicate-append-replicate, append_cancel_right, get_or-take, get_or_past, get_or_append_left, get_or-append_right, get_or-replicate, length-take}
 use Rattle.mt_store_spec.specs.Codes.{digits, log2, gamma, delta, bits, IsTooLarge, SixZeros, Passes32, IsCut, Unread}
@@ -124,12 +125,16 @@ pub record Head (w z : ℕ) : Type 0 where
   pub low : 2 ^ (63 - z) ≤ w
   pub high : w < 2 ^ (64 - z)
 
-pub head_of : (w r : ℕ) → 2 ^ r ≤ w → w < 2 * 2 ^ r → r < 64 → (w / 2 ^ 58 ≡ 0 → ⊥) → Head w (63 - r)
-head_of w r a b c d =
-    let big : 58 ≤ r = elim (cases_lt r 58) [
+pub big_head : (w r : ℕ) → w < 2 * 2 ^ r → (w / 2 ^ 58 ≡ 0 → ⊥) → 58 ≤ r
+big_head w r b d =
+    elim (cases_lt r 58) [
       | inl l ↦ let p = pow_monotone (r + 1) 58 (omega arith) in let q = pow_more r in absurd (d (omega arith))
       | inr g ↦ g
-    ] in
+    ]
+
+pub head_of : (w r : ℕ) → 2 ^ r ≤ w → w < 2 * 2 ^ r → r < 64 → (w / 2 ^ 58 ≡ 0 → ⊥) → Head w (63 - r)
+head_of w r a b c d =
+    let big = big_head w r b d in
     let e : 63 - (63 - r) ≡ r = omega arith in
     let f : 64 - (63 - r) ≡ r + 1 = omega arith in
     let q = pow_more r in
@@ -383,6 +388,49 @@ begins_no_large w z n k f h large b l =
 
 pub begins_value : (w z g : ℕ) → CodeValue w z g → Begins w (w / 2 ^ (64 - (2 * z + 1 + (g - 1))) - (g - 1) * 2 ^ (g - 1)) (2 * z + 1 + (g - 1))
 begins_value w z g c = record { positive = c.positive; small = c.fits; code = c.code }
+
+-- the same, by the code's length
+pub record CodeAt (w g len : ℕ) : Type 0 where
+  pub some : 1 ≤ g
+  pub long : 1 ≤ len
+  pub few : len ≤ 57
+  pub shifted : (g - 1) * 2 ^ (g - 1) % 2 ^ 64 ≡ (g - 1) * 2 ^ (g - 1)
+  pub above : (g - 1) * 2 ^ (g - 1) ≤ w / 2 ^ (64 - len)
+  pub fits : w / 2 ^ (64 - len) - (g - 1) * 2 ^ (g - 1) < 2 ^ 32
+  pub begins : Begins w (w / 2 ^ (64 - len) - (g - 1) * 2 ^ (g - 1)) len
+
+pub code_at : (w z g : ℕ) → Head w z → w / 2 ^ (63 - 2 * z) ≡ g → g ≤ 32 → CodeAt w g (2 * z + g)
+code_at w z g head e small =
+    let few = head.few in
+    let is : w / 2 ^ (64 - (2 * z + 1)) ≡ g = ap (λ x. w / 2 ^ x) (omega arith) ∙ e in
+    let low : 2 ^ z ≤ g = subst (λ x. 2 ^ z ≤ x) is (gamma_value w z head).0 in
+    let p = pow_pos z in
+    let v : CodeValue w z g = code_value w z g head is small in
+    let l : 2 * z + 1 + (g - 1) ≡ 2 * z + g = omega arith in
+    record {
+      some = omega arith;
+      long = omega arith;
+      few = omega arith;
+      shifted = v.shifted;
+      above = subst (λ x. (g - 1) * 2 ^ (g - 1) ≤ w / 2 ^ (64 - x)) l v.above;
+      fits = subst (λ x. w / 2 ^ (64 - x) - (g - 1) * 2 ^ (g - 1) < 2 ^ 32) l v.fits;
+      begins = subst (λ x. Begins w (w / 2 ^ (64 - x) - (g - 1) * 2 ^ (g - 1)) x) l (begins_value w z g v);
+    }
+
+-- a word that is not small begins with few zeros
+pub leading_head : (w : ℕ) → w < 2 ^ 64 → (w / 2 ^ 58 ≡ 0 → ⊥) → Head w (count_leading_zeros 64 w)
+leading_head w fits big =
+    let some : 0 < w = elim (cases_lt 0 w) [
+      | inl l ↦ l
+      | inr g ↦ absurd (big (omega arith))
+    ] in
+    let t = leading_top 64 w some fits in
+    let j = t.0 in
+    let sum = t.1 in
+    let high = big_head w j (let m = pow_more j in let h = t.3 in omega arith) big in
+    let e : 63 - count_leading_zeros 64 w ≡ j = omega arith in
+    let f : 64 - count_leading_zeros 64 w ≡ suc j = omega arith in
+    record { few = omega arith; low = rw e t.2; high = rw f t.3 }
 
 pub begins_one : (w n m k l : ℕ) → Begins w n k → Begins w m l → k ≤ 57 → l ≤ 57 → k ≡ l
 begins_one w n m k l b c p q =

@@ -1,15 +1,14 @@
 -- Lists that are kept as their codes: their codes tell them, and one may be added to.
-use Rattle.std.proofs.Common.{ℕ, zero, suc, ◌≡◌, ◌+◌, ◌-◌, ◌*◌, ◌/◌, ◌%◌, ◌<◌, ◌≤◌, ◌⊎◌, Bool, true, false, List, [], ◌∷◌, ◌++◌, length, take, drop, get_or, replicate, refl, sym, ap, ◌∙◌, subst, inl, inr, arith, append_assoc, add-one}
+use Rattle.std.proofs.Common.{ℕ, zero, suc, ◌≡◌, ◌+◌, ◌-◌, ◌*◌, ◌/◌, ◌%◌, ◌<◌, ◌≤◌, Bool, true, false, List, [], ◌∷◌, ◌++◌, length, take, drop, get_or, replicate, refl, sym, ap, ◌∙◌, subst, inl, inr, arith, append_assoc}
 use Rattle.std.proofs.lemmas.Bool.{cases_lt, cases_order}
-use Rattle.std.proofs.lemmas.List.{length-append, length-replicate, append-nil, nil_from_length, take_all, take-append-le, get_or_append_left, get_or_push, length_push, drop_at, take_at, length-drop, drop-append-le, drop_all, take_more, take-append-drop, get_or-drop, length-take-le}
+use Rattle.std.proofs.lemmas.List.{length-append, length-replicate, append-nil, take_all, take-append-le, get_or_append_left, get_or_push, length_push, drop_at, take_at, length-drop, take-append-drop, length-take-le}
 use Rattle.std.proofs.Math.Seq.{take-append-add}
-use Rattle.mt_store_spec.specs.Codes.{delta, bits, Unread}
-use Rattle.mt_store_spec.specs.Positions.{ArePositions, next_least, codes, IsCode, from_least}
-use Rattle.mt_postings.specs.Kept.{begins_with, number, positions_in, IsEnd, IsEntry, AreEntries, IsKept, IsPlaced}
-use Rattle.mt_postings.specs.Following.{Follow}
+use Rattle.mt_store_spec.specs.Codes.{delta, bits}
+use Rattle.mt_store_spec.specs.Positions.{ArePositions, next_least, codes, IsCode}
+use Rattle.mt_postings.specs.Kept.{begins_with, number, positions_in, IsEnd, IsEntry, AreEntries, IsKept}
 use Rattle.mt_postings.specs.declared.coded.Entry.{Entry}
 use Rattle.mt_postings.proofs.Deltas.{delta_same}
-use Rattle.mt_postings.proofs.Words.{length-bits, bits-append, take-bits, drop-bits}
+use Rattle.mt_postings.proofs.Words.{length-bits, bits-append}
 use Rattle.mt_postings.proofs.Ascending.{From, from_start, positions_from, length_positions}
 use Rattle.mt_postings.proofs.Coding.{codes_short, codes_push, next_push}
 

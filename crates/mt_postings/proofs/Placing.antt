@@ -1,15 +1,15 @@
 -- A place in a kept list: its next position, and another place behind an entry.
-use Rattle.std.proofs.Common.{ℕ, zero, suc, ◌≡◌, ◌+◌, ◌-◌, ◌*◌, ◌/◌, ◌%◌, ◌^◌, ◌<◌, ◌≤◌, ◌⊎◌, Bool, List, [], ◌∷◌, ◌++◌, length, take, drop, get_or, replicate, false, refl, sym, ap, ◌∙◌, subst, inl, inr, arith, append_assoc, add-one}
+use Rattle.std.proofs.Common.{ℕ, zero, suc, ◌≡◌, ◌+◌, ◌-◌, ◌*◌, ◌/◌, ◌^◌, ◌<◌, ◌≤◌, Bool, List, [], ◌∷◌, ◌++◌, length, take, drop, get_or, replicate, false, refl, sym, ap, ◌∙◌, subst, inl, inr, arith, append_assoc}
 use Rattle.std.proofs.lemmas.Bool.{cases_lt}
 use Rattle.std.proofs.lemmas.Bool.Decides.{nat_tests}
-use Rattle.std.proofs.lemmas.List.{length-append, append-nil, nil_from_length, take-append-le, length-drop, length-take-le, take_more, take-append-drop, get_or-append-add, take_all, drop_at, drop_more, drop_all}
+use Rattle.std.proofs.lemmas.List.{length-append, nil_from_length, length-drop, length-take-le, take_more, take-append-drop, get_or-append-add, drop_at, drop_more, drop_all}
 use Rattle.std.proofs.Math.Seq.{take-append-add}
 use Rattle.mt_store_spec.specs.Codes.{delta, bits, log2, Unread}
 use Rattle.mt_store_spec.specs.Positions.{ArePositions, next_least, codes, IsCode, from_least}
 use Rattle.mt_postings.specs.Refused.{IsRefused}
 use Rattle.mt_postings.specs.declared.error.CodeError.{CodeError}
 use Rattle.mt_postings.specs.declared.error.CodeError.TheVariants.{Cut, TooLarge}
-use Rattle.mt_postings.specs.Kept.{positions_in, IsEnd, IsEntry, AreEntries, IsPlaced, IsNear}
+use Rattle.mt_postings.specs.Kept.{positions_in, IsEnd, AreEntries, IsPlaced, IsNear}
 use Rattle.mt_postings.specs.declared.coded.Entry.{Entry}
 use Rattle.mt_postings.proofs.Deltas.{delta_same}
 use Rattle.mt_postings.proofs.Refusals.{code_not_large, code_not_cut}

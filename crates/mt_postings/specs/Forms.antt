@@ -15,13 +15,13 @@ positions_left (left.Codes places) = places
 -- the positions that are kept: a few in place, as numbers, or as their code
 abbrev pub positions_kept : Kept → List ℕ
 positions_kept (kept.Few few) = few
-positions_kept (kept.Numbers numbers) = numbers.items
+positions_kept (kept.Numbers numbers) = numbers.value.items
 positions_kept (kept.Code coded) = coded.value
 
 -- the form goes by how many there are: up to four in place, up to 128 as numbers, and more as their code
 abbrev pub IsFitting : Kept → Type 0
 IsFitting (kept.Few few) = length few ≤ 4
-IsFitting (kept.Numbers numbers) = length numbers.items ≤ 128
+IsFitting (kept.Numbers numbers) = length numbers.value.items ≤ 128
 IsFitting (kept.Code coded) = 128 < length coded.value
 
 -- the positions that are lent

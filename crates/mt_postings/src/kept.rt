@@ -55,11 +55,12 @@ impl Few {
     }
 }
 
-/// The positions of a list, in the form that goes by how many they are.
+/// The positions of a list, in the form that goes by how many they are. Most lists of a lexicon are short ones, so none of the forms
+/// takes more than a few in place do.
 #[derive(Debug, Drop)]
 pub(crate) enum Kept {
     Few(Few),
-    Numbers(Vec<u32>),
+    Numbers(Box<Vec<u32>>),
     Code(Box<Coded>),
 }
 
@@ -80,7 +81,7 @@ pub(crate) fn keep(alloc: Global, positions: &[u32]) -> Result<Kept, NoMemory>
         return Ok(Kept::Few(Few::from_slice(positions)));
     }
     if positions.len() <= SHORT {
-        return Ok(Kept::Numbers(Vec::from_slice(alloc, positions)?));
+        return Ok(Kept::Numbers(Box::new(alloc, Vec::from_slice(alloc, positions)?)?));
     }
     Ok(Kept::Code(Box::new(alloc, Coded::from_slice(alloc, positions)?)?))
 }

@@ -5,6 +5,7 @@
 //! bits written, and a `BitReader` as the bits that are left and the place of the next one.
 #![tactic(auto)]
 
+mod code;
 mod coded;
 mod cursor;
 mod decoding;

@@ -1,10 +1,11 @@
 //! A reader of bits.
 
-ghost use Rattle.std.specs.Prelude.{◌≡◌, ℕ, ◌+◌, ◌-◌, ◌*◌, ◌^◌, ◌<◌, ◌≤◌, ◌↔◌, Bool, false, List as Items, ◌++◌, length, take, drop, replicate, MatchBool, IfOk, IfErr, IfSome, IfNone, OnErr};
+ghost use Rattle.std.specs.Prelude.{◌≡◌, ℕ, ◌+◌, ◌-◌, ◌*◌, ◌^◌, ◌<◌, ◌≤◌, ◌↔◌, Bool, false, List as Items, ◌++◌, length, take, drop, replicate, MatchBool, IfOk, IfErr, OnErr};
 ghost use Rattle.mt_store_spec.specs.Codes.{digits, delta, bits, Unread, IsTooLarge, IsCut};
 ghost use Rattle.mt_postings.specs.Words.{Shows, Begins};
 ghost use Rattle.mt_postings.specs.Refused.{IsRefused};
 
+use super::code::{code_in, short_code_in};
 use super::error::CodeError;
 use std::marker::Model;
 
@@ -45,7 +46,7 @@ fn padded(bytes: &[u8]) -> [u8; 8]
 }
 
 /// The first eight bytes as a word. Where there are fewer, zeros stand for the others.
-#[inline]
+#[inline(always)]
 fn first_word(bytes: &[u8]) -> u64
     ensures { digits 64 result ≡ take 64 (bits bytes.now ++ replicate 64 false) }
 {
@@ -53,32 +54,6 @@ fn first_word(bytes: &[u8]) -> u64
         Some(chunk) => u64::from_be_bytes(*chunk),
         None => u64::from_be_bytes(padded(bytes)),
     }
-}
-
-/// The number whose code begins at the highest place of a word, and how many bits the code has. None where these are
-/// more than `held`, or it is no code.
-#[inline]
-fn code_in(word: u64, held: u32) -> Option<(u32, u32)>
-    requires { held ≤ 57 }
-    ensures code { IfSome result (λ code. Begins word code.0 code.1) }
-    ensures within { IfSome result (λ code. code.1 ≤ held) }
-    ensures none { IfNone result ((n k : ℕ) → Begins word n k → k ≤ held → ⊥) }
-{
-    if word >> 58 == 0 {
-        return None;
-    }
-    let head = 2 * (63 - word.ilog2()) + 1;
-    let digits = word >> (64 - head);
-    if digits > 32 {
-        return None;
-    }
-    let low = digits as u32 - 1;
-    let length = head + low;
-    if length > held {
-        return None;
-    }
-    let n = (word >> (64 - length)) - ((low as u64) << low);
-    Some((n as u32, length))
 }
 
 impl<'a> BitReader<'a> {
@@ -108,7 +83,7 @@ impl<'a> BitReader<'a> {
     }
 
     /// The next 57 bits, the first of them in the highest place.
-    #[inline]
+    #[inline(always)]
     fn next_word(&self) -> u64
         ensures { Shows result self.now.left }
     {
@@ -118,7 +93,7 @@ impl<'a> BitReader<'a> {
     }
 
     /// Why no number is read here, where the word shows the next bits.
-    #[inline]
+    #[inline(always)]
     fn refusal(&self, word: u64) -> CodeError
         requires shown { Shows word self.now.left }
         requires none { (n k : ℕ) → Begins word n k → k ≤ 57 → k ≤ length self.now.left → ⊥ }
@@ -143,7 +118,7 @@ impl<'a> BitReader<'a> {
     }
 
     /// Reads the number whose Elias delta code is next. It takes no memory.
-    #[inline]
+    #[inline(always)]
     pub fn get_delta(&mut self) -> Result<u32, CodeError>
         ensures positive { IfOk result (λ n. 1 ≤ n) }
         ensures number { IfOk result (λ n. self.old.left ≡ delta n ++ self.new.left) }
@@ -153,7 +128,7 @@ impl<'a> BitReader<'a> {
         ensures err { IfErr result (λ e. IsRefused self.old e) }
         ensures unchanged { OnErr result (self.new ≡ self.old) }
     {
-        match code_in(self.word, self.held) {
+        match short_code_in(self.word, self.held) {
             Some((n, length)) => {
                 self.at += length as u64;
                 self.word <<= length;

@@ -1,10 +1,8 @@
-use Rattle.std.proofs.Common.{ℕ, ◌≡◌, ◌+◌, ◌-◌, ◌*◌, ◌<◌, ◌≤◌, ◌++◌, ◌∷◌, [], List, length, take, drop, get_or, sym, ap, ◌∙◌, subst, arith, append_assoc}
+use Rattle.std.proofs.Common.{ℕ, ◌≡◌, ◌+◌, ◌-◌, ◌≤◌, ◌++◌, ◌∷◌, [], List, length, take, drop, get_or, sym, ap, ◌∙◌, subst, arith, append_assoc}
 use Rattle.std.proofs.lemmas.List.{drop_more, take_more, take_all}
 use Rattle.mt_store_spec.specs.Codes.{delta}
-use Rattle.mt_store_spec.specs.Positions.{codes}
 use Rattle.mt_postings.specs.Following.{Follow}
 use Rattle.mt_postings.specs.Kept.{IsEnd, AreEntries}
-use Rattle.mt_postings.specs.declared.coded.Entry.{Entry}
 use Rattle.mt_postings.proofs.Keeping.{end_more, written_more}
 use Rattle.mt_postings.proofs.coded.write.Goals as goal
 

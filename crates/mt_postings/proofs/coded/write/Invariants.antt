@@ -1,4 +1,4 @@
-use Rattle.std.proofs.Common.{ℕ, ◌≡◌, ◌+◌, ◌*◌, ◌<◌, ◌≤◌, ◌++◌, List, length, take, drop}
+use Rattle.std.proofs.Common.{ℕ, ◌≡◌, ◌+◌, ◌*◌, ◌≤◌, ◌++◌, List, take, drop}
 use Rattle.mt_store_spec.specs.Positions.{codes}
 use Rattle.mt_postings.specs.Following.{Follow}
 use Rattle.mt_postings.specs.Kept.{IsEnd, AreEntries}

@@ -1,4 +1,4 @@
-use Rattle.std.proofs.Common.{◌≡◌, ◌<◌, ◌≤◌, length, sym, ap, ◌∙◌, subst}
+use Rattle.std.proofs.Common.{◌<◌, ◌≤◌, length, sym, ap, ◌∙◌, subst}
 use Rattle.mt_postings.proofs.kept.keep.Goals as goal
 
 pub returns-then-positions-le-FEW-clause-all : goal.returns-then-positions-le-FEW-clause-all
@@ -8,13 +8,13 @@ pub returns-then-positions-le-FEW-clause-fitting : goal.returns-then-positions-l
 returns-then-positions-le-FEW-clause-fitting c = subst (λ x. length x ≤ 4) (sym c.from_slice.ensures) c.if-positions-le-FEW.true
 
 pub returns-then-positions-le-SHORT-clause-all : goal.returns-then-positions-le-SHORT-clause-all
-returns-then-positions-le-SHORT-clause-all c = c.in_ok-from_slice.ensures.items
+returns-then-positions-le-SHORT-clause-all c = ap (λ v. v.items) c.in_ok-new.ensures.ok ∙ c.in_ok-from_slice.ensures.items
 
 pub returns-then-positions-le-SHORT-clause-fitting : goal.returns-then-positions-le-SHORT-clause-fitting
-returns-then-positions-le-SHORT-clause-fitting c = subst (λ x. length x ≤ 128) (sym c.in_ok-from_slice.ensures.items) c.if-positions-le-SHORT.true
+returns-then-positions-le-SHORT-clause-fitting c = subst (λ x. length x ≤ 128) (sym (ap (λ v. v.items) c.in_ok-new.ensures.ok ∙ c.in_ok-from_slice.ensures.items)) c.if-positions-le-SHORT.true
 
 pub returns-clause-all : goal.returns-clause-all
-returns-clause-all c = c.in_ok-new.ensures.ok ∙ c.in_ok-from_slice-2.ensures
+returns-clause-all c = c.in_ok-new-2.ensures.ok ∙ c.in_ok-from_slice-2.ensures
 
 pub returns-clause-fitting : goal.returns-clause-fitting
-returns-clause-fitting c = subst (λ x. 128 < length x) (sym (c.in_ok-new.ensures.ok ∙ c.in_ok-from_slice-2.ensures)) c.if-positions-le-SHORT.false
+returns-clause-fitting c = subst (λ x. 128 < length x) (sym (c.in_ok-new-2.ensures.ok ∙ c.in_ok-from_slice-2.ensures)) c.if-positions-le-SHORT.false

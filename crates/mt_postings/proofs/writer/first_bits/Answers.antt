@@ -1,5 +1,5 @@
-use Rattle.std.proofs.Common.{ℕ, ◌≡◌, ◌+◌, ◌-◌, ◌/◌, ◌^◌, ◌<◌, ◌≤◌, ◌++◌, ◌∷◌, [], length, take, get_or, sym, ap, ◌∙◌, subst, arith}
-use Rattle.mt_store_spec.specs.Codes.{digits, bits}
+use Rattle.std.proofs.Common.{◌-◌, ◌/◌, ◌^◌, ◌<◌, sym, ap, ◌∙◌, subst, arith}
+use Rattle.mt_store_spec.specs.Codes.{digits}
 use Rattle.mt_postings.proofs.Words.{first_digits, first_fits, first_none, first_small}
 use Rattle.mt_postings.proofs.writer.first_bits.Goals as goal
 

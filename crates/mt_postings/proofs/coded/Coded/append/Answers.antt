@@ -1,7 +1,7 @@
-use Rattle.std.proofs.Common.{ℕ, ◌≡◌, ◌+◌, ◌*◌, ◌/◌, ◌%◌, ◌<◌, ◌≤◌, ◌++◌, List, Bool, length, take, drop, sym, ap, ◌∙◌, subst, arith}
+use Rattle.std.proofs.Common.{◌≡◌, ◌/◌, ◌%◌, ◌++◌, length, take, drop, sym, ap, ◌∙◌, subst, arith}
 use Rattle.std.proofs.lemmas.List.{length-append}
 use Rattle.mt_store_spec.specs.Codes.{bits}
-use Rattle.mt_store_spec.specs.Positions.{ArePositions, codes}
+use Rattle.mt_store_spec.specs.Positions.{ArePositions}
 use Rattle.mt_postings.specs.Following.{Follow}
 use Rattle.mt_postings.specs.Kept.{positions_in, IsKept}
 use Rattle.mt_postings.proofs.Ascending.{length_positions}

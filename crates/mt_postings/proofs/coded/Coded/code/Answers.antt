@@ -1,4 +1,4 @@
-use Rattle.std.proofs.Common.{◌≡◌, ◌<◌, length, sym, subst}
+use Rattle.std.proofs.Common.{◌<◌, length, sym, subst}
 use Rattle.mt_store_spec.specs.Codes.{bits}
 use Rattle.mt_postings.specs.Kept.{positions_in}
 use Rattle.mt_postings.proofs.Coding.{short_code}

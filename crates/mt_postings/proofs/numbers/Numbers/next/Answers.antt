@@ -1,4 +1,4 @@
-use Rattle.std.proofs.Common.{◌≡◌, ◌∷◌, ◌≤◌, length, ap, arith}
+use Rattle.std.proofs.Common.{length, ap, arith}
 use Rattle.mt_postings.proofs.Ascending.{rest_positions}
 use Rattle.mt_postings.proofs.numbers.Numbers.next.Goals as goal
 

@@ -1,6 +1,5 @@
-use Rattle.std.proofs.Common.{◌≡◌, ◌-◌, ◌*◌, [], length, sym, ap, ◌∙◌, subst, arith}
-use Rattle.mt_store_spec.specs.Codes.{bits}
-use Rattle.mt_postings.specs.Kept.{positions_in, IsPlaced}
+use Rattle.std.proofs.Common.{◌≡◌, ◌-◌, ap, ◌∙◌, arith}
+use Rattle.mt_postings.specs.Kept.{positions_in}
 use Rattle.mt_postings.proofs.Coding.{short_code}
 use Rattle.mt_postings.proofs.Keeping.{kept_told}
 use Rattle.mt_postings.proofs.Placing.{placed_first}

@@ -1,6 +1,6 @@
-use Rattle.std.proofs.Common.{◌≡◌, ◌+◌, ◌-◌, ◌<◌, arith, sym, ◌∙◌}
+use Rattle.std.proofs.Common.{◌-◌, arith, sym, ◌∙◌}
 use Rattle.mt_postings.specs.Kept.{positions_in}
-use Rattle.mt_postings.proofs.Placing.{Stepped, stepped, not_refused, placed_none}
+use Rattle.mt_postings.proofs.Placing.{stepped, not_refused}
 use Rattle.mt_postings.proofs.places.Places.next.Goals as goal
 
 pub overflow_add-position : goal.overflow_add-position

@@ -1,8 +1,7 @@
-use Rattle.std.proofs.Common.{ℕ, ◌≡◌, ◌+◌, ◌-◌, ◌*◌, ◌/◌, ◌<◌, ◌≤◌, [], ◌∷◌, length, get_or, sym, ap, ◌∙◌, subst, arith}
+use Rattle.std.proofs.Common.{◌≡◌, ◌-◌, ◌/◌, [], ◌∷◌, length, get_or, ap, ◌∙◌, subst, arith}
 use Rattle.std.specs.Option.{MatchOption}
 use Rattle.mt_store_spec.specs.Positions.{from_least}
 use Rattle.mt_postings.specs.Kept.{positions_in, IsNear}
-use Rattle.mt_postings.specs.declared.coded.Entry.{Entry}
 use Rattle.mt_postings.proofs.Placing.{zero_entry, near_here, few_ahead, jumped, jump_placed, jump_near, jump_given, search_cost, placed_count, apart}
 use Rattle.mt_postings.proofs.places.Places.seek.Goals as goal
 

@@ -1,4 +1,4 @@
-use Rattle.std.proofs.Common.{ℕ, ◌≡◌, ◌+◌, ◌<◌, ◌++◌, List, Result, length, sym, ap, ◌∙◌, subst}
+use Rattle.std.proofs.Common.{◌≡◌, ◌<◌, ◌++◌, length, sym, ap, ◌∙◌, subst}
 use Rattle.std.specs.Result.{OnOk, OnErr}
 use Rattle.mt_store_spec.specs.Positions.{ArePositions}
 use Rattle.mt_postings.specs.Forms.{positions_kept, IsFitting}

@@ -1,4 +1,4 @@
-use Rattle.std.proofs.Common.{◌≡◌, Ok, Err, inl, inr, ap, sym, ◌∙◌}
+use Rattle.std.proofs.Common.{Ok, Err, inl, inr, ap, sym, ◌∙◌}
 use Rattle.mt_store_spec.specs.Codes.{bits}
 use Rattle.mt_postings.proofs.Coding.{one_list, no_list_of, too_large_of, cut_of, padding_of, not_too_large, not_cut, not_padding}
 use Rattle.mt_postings.proofs.postings.Postings.decode.Goals as goal

@@ -1,4 +1,4 @@
-use Rattle.std.proofs.Common.{◌≡◌, ◌+◌, ◌-◌, ◌*◌, ◌≤◌, length, drop, ap, arith}
+use Rattle.std.proofs.Common.{◌≡◌, drop, ap, arith}
 use Rattle.mt_store_spec.specs.Codes.{bits}
 use Rattle.mt_postings.proofs.Heads.{left_length, holds_none}
 use Rattle.mt_postings.proofs.reader.BitReader.move_to.Goals as goal
