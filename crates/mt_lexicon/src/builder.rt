@@ -1,6 +1,6 @@
 //! Numbering values as they are seen.
 
-ghost use Rattle.std.specs.Prelude.{◌≡◌, ◌-◌, ◌^◌, ◌<◌, [], length, map, slice_get, slice_index, Some, IfOk, IfSome, IfNone, OnOk, OnErr};
+ghost use Rattle.std.specs.Prelude.{◌≡◌, ◌-◌, ◌^◌, ◌<◌, [], length, map, slice_get, slice_index, slice_index_or, Some, IfOk, IfSome, IfNone, OnOk, OnErr};
 ghost use Rattle.std.specs.List.{All, Contains};
 ghost use Rattle.mt_lexicon.specs.Entries.{IsNumbering, IsSortedNumbering, AreDistinct, BeginsBy};
 ghost use Rattle.mt_lexicon.specs.Hashed as spec;
@@ -90,18 +90,33 @@ impl LexiconBuilder {
     {
         let LexiconBuilder { alloc, seen, table } = self;
         drop(table);
-        let entries = sorted_entries(alloc, &seen)?;
-        let mut values = Strings::with_capacity(alloc, entries.len(), bytes_of(&entries))?;
-        let mut numbers = vec![in alloc; 0u32; entries.len()]?;
-        for entry in &entries {
-            numbers[entry.number as usize] = values.len() as u32;
-            values.push(entry.value)?;
-        }
-        Ok((
-            Lexicon::from_strings(values),
-            Renumbering::from_vec(numbers),
-        ))
+        let order = order_of(alloc, &seen)?;
+        arranged(alloc, &seen, order.as_slice())
     }
+}
+
+/// The values in an order, and for each number the place of its value there.
+fn arranged(
+    alloc: Global,
+    seen: &Strings,
+    order: &[u32],
+) -> Result<(Lexicon, Renumbering), NoMemory>
+    requires few { length seen.now < 2 ^ 32 }
+    requires order { IsSortedNumbering seen.now (map (λ n. (slice_index_or seen.now n [], n)) order.now) }
+    ensures lexicon { IfOk result (λ r. IsLexiconOf seen.now r.0) }
+    ensures numbers { IfOk result (λ r. Renumbers r.1 seen.now r.0) }
+    ensures count { IfOk result (λ r. length r.0 ≡ length seen.now) }
+{
+    let mut values = Strings::with_capacity(alloc, order.len(), bytes_of(seen))?;
+    let mut numbers = vec![in alloc; 0u32; order.len()]?;
+    for number in order {
+        numbers[*number as usize] = values.len() as u32;
+        values.push(seen.get(*number as usize))?;
+    }
+    Ok((
+        Lexicon::from_strings(values),
+        Renumbering::from_vec(numbers),
+    ))
 }
 
 /// A value behind its first bytes, and its number by first sight. Entries stand in the order of their values, which mostly the first
@@ -111,6 +126,20 @@ struct Entry<'a> {
     first: u64,
     value: &'a str,
     number: u32,
+}
+
+/// The places of the values, in ascending order of the values. What they are sorted by is let go before there is a second copy of them.
+fn order_of(alloc: Global, values: &Strings) -> Result<Vec<u32>, NoMemory>
+    requires few { length values.now < 2 ^ 32 }
+    requires distinct { AreDistinct values.now }
+    ensures { IfOk result (λ order. IsSortedNumbering values.now (map (λ n. (slice_index_or values.now n [], n)) order.items)) }
+{
+    let entries = sorted_entries(alloc, values)?;
+    let mut order = Vec::with_capacity(alloc, entries.len())?;
+    for entry in &entries {
+        order.push(entry.number)?;
+    }
+    Ok(order)
 }
 
 /// The values with their places, in ascending order.
@@ -163,10 +192,10 @@ fn byte_at(bytes: &[u8], place: usize) -> u8
 }
 
 /// How many bytes the values have, for the memory that is taken for them.
-fn bytes_of(entries: &[Entry<'_>]) -> usize {
+fn bytes_of(values: &Strings) -> usize {
     let mut bytes = 0usize;
-    for entry in entries {
-        bytes = bytes.saturating_add(entry.value.len());
+    for number in 0..values.len() {
+        bytes = bytes.saturating_add(values.get(number).len());
     }
     bytes
 }

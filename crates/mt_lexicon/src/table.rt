@@ -10,7 +10,7 @@ use std::hash::{FoldHasher, Hasher};
 use std::marker::Model;
 
 /// A table that has buckets has at least so many.
-const FEWEST_BUCKETS: usize = 16;
+const FEWEST_BUCKETS: usize = 32;
 
 /// The hash of a value.
 #[tactic(auto, unfolding(crate::specs::Hashed::hash_of))]
@@ -118,12 +118,12 @@ impl Table {
         Ok(())
     }
 
-    /// The same numbers in twice as many buckets.
+    /// The same numbers in four times as many buckets, so that mostly a bucket has none or one.
     fn grown(&self, alloc: Global) -> Result<Self, NoMemory>
         ensures hashes { IfOk result (λ table. table.0 ≡ self.now.0) }
         ensures buckets { IfOk result (λ table. length table.0 < table.1) }
     {
-        let buckets = self.links.len().saturating_mul(2).max(FEWEST_BUCKETS);
+        let buckets = self.links.len().saturating_mul(4).max(FEWEST_BUCKETS);
         let mut table = Table {
             ends: vec![in alloc; 0u32; buckets]?,
             links: Vec::with_capacity(alloc, buckets)?,
