@@ -3,7 +3,7 @@
 ghost use Rattle.std.specs.Prelude.{◌≡◌, ◌<◌, ◌≤◌, length, IfOk};
 
 use mt_base::{NoMemory, Steps};
-use mt_lexicon::{Lexicon, LexiconBuilder, LexiconMerger};
+use mt_lexicon::{Lexicon, LexiconBuilder, LexiconMerger, is_shortest};
 use std::alloc::Global;
 use std::cmp::Ordering;
 use std::marker::Brand;
@@ -116,6 +116,7 @@ fn merge_two(alloc: Global, first: &Lexicon, second: &Lexicon) -> Result<u64, No
     if second.len() > WORDS {
         return Err(NoMemory);
     }
+    is_shortest();
     let mut merger = LexiconMerger::new(alloc)?;
     merger.add(first)?;
     merger.add(second)?;

@@ -1,5 +1,5 @@
 -- The tables of all attributes together, and what is beside them.
-use Rattle.std.proofs.Common.{◌≡◌, ℕ, ◌+◌, ◌*◌, ◌<◌, ◌≤◌, Bool, true, false, List, [], ◌∷◌, ◌++◌, length, length-append, map, take, get_or, set, sum, Option, None, Some, refl, sym, ◌∙◌, ap, ap₂, subst, arith, ◌⊎◌, inl, inr}
+use Rattle.std.proofs.Common.{◌≡◌, ℕ, ◌+◌, ◌*◌, ◌<◌, ◌≤◌, Bool, true, false, List, [], ◌∷◌, ◌++◌, length, length-append, map, take, get_or, set, sum, Option, None, Some, refl, sym, ◌∙◌, ap, subst, arith, ◌⊎◌, inl, inr}
 use Rattle.std.specs.List.{All}
 use Rattle.std.proofs.lemmas.Bool.{cases_lt}
 use Rattle.std.proofs.lemmas.List.{length-map, length-set, get_or-set_same, get_or-set_other, get_or_append_left, get_or_push, get_or_default}
@@ -8,9 +8,9 @@ use Rattle.std.proofs.lemmas.Option.{slice_get_within, get_or_from_slice_get}
 use mir.Val.{bool_byte}
 use Rattle.mt_text_spec.specs.Registries.{Registry, Attr, ValidRegistry, ValidAttr, IsBaseAt, base_attr, column_of, is_base}
 use Rattle.mt_text_spec.specs.Texts.{StructSpan, Text, total_tokens, corpus_tokens_limit}
-use Rattle.mt_lexicon.proofs.Renumbered.{numbers_within}
+use Rattle.mt_segment.proofs.Renumbered.{numbers_within}
 use Rattle.mt_segment_spec.specs.Tables.{AttrTables, AreBaseTables, AreMappedTables, AreTablesOf, attr_at, attr_values, column_values, heads_of, tables_at}
-use Rattle.mt_segment_laws.proofs.Values.{length-column_values, mapped_values, own_values}
+use Rattle.mt_segment.proofs.Values.{length-column_values, mapped_values, own_values}
 use Rattle.mt_segment.specs.Building.{AreAllMapped, AreInstances, AreUsable, HasBase, HaveBases, IsMappedAt, attr_of}
 use Rattle.mt_segment.specs.Ends.{AreFirstEnds}
 use Rattle.mt_segment.specs.Lists.{groups}

@@ -1,10 +1,9 @@
 -- Lists in one block, and lists in groups.
-use Rattle.std.proofs.Common.{◌≡◌, ℕ, zero, suc, ◌+◌, ◌-◌, ◌*◌, ◌<◌, ◌≤◌, List, [], ◌∷◌, ◌++◌, length, length-append, take, drop, get_or, refl, sym, ◌∙◌, ap, ap₂, subst, arith, append-nil}
+use Rattle.std.proofs.Common.{◌≡◌, ℕ, zero, suc, ◌+◌, ◌-◌, ◌*◌, ◌<◌, ◌≤◌, List, [], ◌∷◌, ◌++◌, length, length-append, take, drop, get_or, refl, sym, ◌∙◌, ap, ap₂, arith, append-nil}
 use Rattle.std.specs.Prelude.{slice_range}
 use Rattle.std.specs.List.{All, flat_map}
 use Rattle.std.proofs.Math.Nat.{suc-mul}
-use Rattle.std.proofs.lemmas.Grind.{common_steps}
-use Rattle.std.proofs.lemmas.List.{take_all, drop_all, drop-append-le, take-append-le, length-drop, length-take, get_or-take, get_or-drop, drop-drop}
+use Rattle.std.proofs.lemmas.List.{take_all, drop_all, drop-append-le, take-append-le, length-drop, get_or-drop, drop-drop}
 use Rattle.mt_segment.specs.Lists.{parts, AreBegins, groups}
 
 -- ---- places that do not fall

@@ -1,9 +1,18 @@
 -- Calls of mappers, whether memory was wanted half-way or not.
-use Rattle.std.proofs.Common.{◌≡◌, ℕ, ◌<◌, ◌≤◌, true, List, length, get_or, Result, Ok, Err, OnOk, refl, sym, ◌∙◌, ap, subst, arith}
+use Rattle.std.proofs.Common.{◌≡◌, ℕ, ◌+◌, ◌<◌, ◌≤◌, List, length, get_or, Result, Ok, Err, refl, sym, subst, arith}
 use Rattle.std.specs.Result.{IsErr}
 use Rattle.mt_mapper.specs.Calls.{counted, CountedAtMost}
-use Rattle.mt_mapper.proofs.Counts.{counted_none}
 use Rattle.mt_segment.specs.Mappers.{AreCalled, Called}
+
+-- ---- counts
+
+-- no call leaves a count as it is
+counted_none : (calls : ℕ) → counted calls 0 ≡ calls
+counted_none calls = grind arith
+
+-- calls, and then more calls
+pub counted_more : (calls first second : ℕ) → counted (counted calls first) second ≡ counted calls (first + second)
+counted_more calls first second = grind arith
 
 -- ---- one mapper
 

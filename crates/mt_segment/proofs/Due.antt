@@ -1,5 +1,5 @@
 -- The calls that are due for several attributes.
-use Rattle.std.proofs.Common.{◌≡◌, ℕ, suc, ◌+◌, ◌<◌, ◌≤◌, ◌==◌, List, [], ◌∷◌, length, map, take, get_or, sum, Option, None, Some, Result, Ok, Err, refl, sym, ◌∙◌, ap, ap₂, arith, if◌then◌else◌}
+use Rattle.std.proofs.Common.{◌≡◌, ℕ, suc, ◌+◌, ◌<◌, ◌==◌, List, [], ◌∷◌, length, map, take, get_or, sum, Option, None, Some, Result, Err, refl, sym, ◌∙◌, ap, ap₂, arith, if◌then◌else◌}
 use Rattle.std.specs.Result.{IsErr}
 use Rattle.std.specs.List.{All}
 use Rattle.std.proofs.lemmas.List.{get_or_default}
@@ -7,14 +7,13 @@ use Rattle.std.proofs.lemmas.List.Sums.{sum-map, sum_by_more, sum_by_more_le}
 use Rattle.mt_text_spec.specs.Registries.{Registry, Attr}
 use Rattle.mt_text_spec.specs.Texts.{Text}
 use Rattle.mt_mapper.specs.Calls.{counted, CountedAtMost}
-use Rattle.mt_mapper.proofs.Counts.{counted_more}
-use Rattle.mt_lexicon.proofs.Lexicons.{one_lexicon}
+use Rattle.mt_store_spec.specs.Lexicons.{HaveOneLexicon}
 use Rattle.mt_segment_spec.specs.Tables.{AttrTables, Tables, AreTablesOf, attr_at, attr_values, tables_at}
-use Rattle.mt_segment_laws.proofs.Values.{have, own_values}
-use Rattle.mt_segment.specs.Building.{AreAllMapped, HasBase, attr_of}
-use Rattle.mt_segment.specs.Mappers.{AreCalled, Called, calls_due, calls_of, number_of}
+use Rattle.mt_segment.proofs.Values.{have, own_values}
+use Rattle.mt_segment.specs.Building.{AreAllMapped, HasBase}
+use Rattle.mt_segment.specs.Mappers.{AreCalled, calls_due, calls_of, number_of}
 use Rattle.mt_segment.proofs.Assembled.{AreFirst, based_on}
-use Rattle.mt_segment.proofs.Calls.{AreCounted, called_part, halfway_of, same_due}
+use Rattle.mt_segment.proofs.Calls.{AreCounted, called_part, counted_more, halfway_of, same_due}
 
 module _ (images : List ℕ → List ℕ → List ℕ) (attrs : List Attr) (old now : List AttrTables) (number : ℕ) (attr : Attr) (h : AreAllMapped images attrs old now number) (l : number < length attrs)
     (count : length old ≡ length attrs) (is : attr ≡ get_or attrs number attr) (bases : All (HasBase attrs old) attrs) where
@@ -64,7 +63,7 @@ mapped_due names tables mapper name base its d before after answer some l e h =
     ∙ ap (λ (n : List ℕ). calls_of names tables m n (Some base)) e ∙ ap (calls_of names tables m mapper) (sym some)) h
 
 -- the tables of the base attributes tell what is due by any tables of the texts
-module _ (images : List ℕ → List ℕ → List ℕ) (registry : Registry) (corpus : List Text) (first : List AttrTables) (tables : Tables) (is_first : AreFirst registry corpus first) (are : AreTablesOf images registry corpus tables) where
+module _ (one_lexicon : HaveOneLexicon) (images : List ℕ → List ℕ → List ℕ) (registry : Registry) (corpus : List Text) (first : List AttrTables) (tables : Tables) (is_first : AreFirst registry corpus first) (are : AreTablesOf images registry corpus tables) where
   same_base : (base : ℕ) → base < length registry.attrs → (attr_at registry base).base ≡ None → (tables_at first base).lexicon ≡ (tables_at tables.attrs base).lexicon
   same_base base l none =
       one_lexicon (attr_values images registry corpus base) (tables_at first base).lexicon (tables_at tables.attrs base).lexicon (rw (own_values images registry corpus base none) (is_first.made.at base l none).have.lexicon)

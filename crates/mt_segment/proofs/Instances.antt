@@ -1,11 +1,11 @@
 -- Instances in texts and kinds.
-use Rattle.std.proofs.Common.{◌≡◌, ℕ, suc, ◌+◌, ◌-◌, ◌*◌, ◌<◌, ◌≤◌, Bool, true, false, cond, List, [], ◌∷◌, ◌++◌, length, length-append, map, take, drop, get_or, refl, sym, ◌∙◌, ap, ap₂, subst, arith, ◌⊎◌, inl, inr, append-nil}
+use Rattle.std.proofs.Common.{◌≡◌, ℕ, suc, ◌+◌, ◌-◌, ◌*◌, ◌<◌, ◌≤◌, Bool, true, false, cond, List, [], ◌∷◌, ◌++◌, length, length-append, take, drop, get_or, sym, ◌∙◌, ap, ap₂, arith, ◌⊎◌, inl, inr, append-nil}
 use Rattle.std.specs.List.{filter, flat_map}
 use Rattle.std.proofs.Math.Nat.{suc-mul}
 use Rattle.std.proofs.lemmas.Bool.{cases_lt, eq-eqb, ne_eqb}
 use Rattle.std.proofs.lemmas.List.Elements.{filter-append}
 use Rattle.std.proofs.lemmas.Nat.{mul-le}
-use Rattle.std.proofs.lemmas.List.{length-map, take_more, get_or_append_left, get_or_push, get_or_default, get_or-take, get_or-drop}
+use Rattle.std.proofs.lemmas.List.{length-map, take_more, get_or_append_left, get_or_push, get_or-take, get_or-drop}
 use Rattle.mt_text_spec.specs.Texts.{StructSpan, Text}
 use Rattle.mt_segment_spec.specs.Tables.{instances_of, is_of_kind}
 use Rattle.mt_segment.specs.Building.{AreInstances}

@@ -1,3 +1,4 @@
+pub mod Values
 pub mod Assembled
 pub mod Blocks
 pub mod Calls
@@ -7,5 +8,6 @@ pub mod Lookups
 pub mod Mappings
 pub mod Numbered
 pub mod Parted
+pub mod Renumbered
 pub mod Slots
 pub mod Valued

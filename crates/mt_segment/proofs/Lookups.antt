@@ -1,9 +1,9 @@
--- What is known of tables that were read, and of instances and bounds.
-use Rattle.std.proofs.Common.{◌≡◌, ℕ, ◌+◌, ◌<◌, ◌≤◌, List, [], length, map, take, get_or, sum, None, Some, sym, ◌∙◌, ap, arith}
+-- What is whole of tables that were read, and of instances and bounds.
+use Rattle.std.proofs.Common.{◌≡◌, ℕ, ◌+◌, ◌<◌, ◌≤◌, List, [], length, map, take, get_or, sum, None, Some, sym, ◌∙◌, ap, subst, arith}
 use Rattle.std.proofs.lemmas.List.{get_or_default}
 use Rattle.std.proofs.lemmas.List.Sums.{sum-map, sum_by-take-le}
-use Rattle.mt_segment_spec.specs.Tables.{Tables, AttrTables, AreTables, number_at, number_by, tables_at, token_count}
-use Rattle.mt_segment_laws.proofs.Known.{base_there, column_long, number_within, postings_many, table_long}
+use Rattle.mt_segment_spec.specs.Tables.{Tables, AttrTables, number_at, number_by, tables_at, token_count}
+use Rattle.mt_segment_laws.specs.Laws.{AreWhole}
 use Rattle.mt_segment.specs.Ends.{AreFirstEnds}
 
 pub record IsRead (tables : Tables) (attr : ℕ) (read : AttrTables) : Type 0 where
@@ -13,49 +13,50 @@ pub record IsRead (tables : Tables) (attr : ℕ) (read : AttrTables) : Type 0 wh
 read_is : (tables : Tables) (attr : ℕ) (read : AttrTables) → IsRead tables attr read → tables_at tables.attrs attr ≡ read
 read_is tables attr read h = sym (h.is ∙ get_or_default tables.attrs attr read (tables_at [] 0) h.within)
 
-pub in_column : (tables now : Tables) → AreTables tables → tables ≡ now → (attr place : ℕ) (read : AttrTables) → IsRead tables attr read → read.base ≡ None → place < token_count now → place < length read.numbers
-in_column tables now known view attr place read h none m =
+pub in_column : (tables now : Tables) → AreWhole tables → tables ≡ now → (attr place : ℕ) (read : AttrTables) → IsRead tables attr read → read.base ≡ None → place < token_count now → place < length read.numbers
+in_column tables now whole view attr place read h none m =
     let e : tables_at tables.attrs attr ≡ read = read_is tables attr read h in
-    omega (arith, column_long tables known attr h.within (ap (λ (t : AttrTables). t.base) e ∙ none), ap (λ (t : AttrTables). length t.numbers) e, ap (λ (t : Tables). token_count t) view)
+    omega (arith, whole.columns attr h.within (ap (λ (t : AttrTables). t.base) e ∙ none), ap (λ (t : AttrTables). length t.numbers) e, ap (λ (t : Tables). token_count t) view)
 
-pub its_base : (tables : Tables) → AreTables tables → (attr base : ℕ) (read : AttrTables) → IsRead tables attr read → read.base ≡ Some base → (base < length tables.attrs) × ((tables_at tables.attrs base).base ≡ None)
-its_base tables known attr base read h some = base_there tables known attr base h.within (ap (λ (t : AttrTables). t.base) (read_is tables attr read h) ∙ some)
+pub its_base : (tables : Tables) → AreWhole tables → (attr base : ℕ) (read : AttrTables) → IsRead tables attr read → read.base ≡ Some base → (base < length tables.attrs) × ((tables_at tables.attrs base).base ≡ None)
+its_base tables whole attr base read h some = whole.bases attr base h.within (ap (λ (t : AttrTables). t.base) (read_is tables attr read h) ∙ some)
 
-pub in_base_column : (tables now : Tables) → AreTables tables → tables ≡ now → (attr base place : ℕ) (read under : AttrTables) → IsRead tables attr read → read.base ≡ Some base → under ≡ get_or tables.attrs base under →
+pub in_base_column : (tables now : Tables) → AreWhole tables → tables ≡ now → (attr base place : ℕ) (read under : AttrTables) → IsRead tables attr read → read.base ≡ Some base → under ≡ get_or tables.attrs base under →
     place < token_count now → place < length under.numbers
-in_base_column tables now known view attr base place read under h some below m =
-    let there = its_base tables known attr base read h some in
+in_base_column tables now whole view attr base place read under h some below m =
+    let there = its_base tables whole attr base read h some in
     let its : IsRead tables base under = record { within = there.0; is = below } in
-    in_column tables now known view base place under its (sym (ap (λ (t : AttrTables). t.base) (read_is tables base under its)) ∙ there.1) m
+    in_column tables now whole view base place under its (sym (ap (λ (t : AttrTables). t.base) (read_is tables base under its)) ∙ there.1) m
 
-pub in_table : (tables now : Tables) → AreTables tables → tables ≡ now → (attr base place number : ℕ) (read under : AttrTables) → IsRead tables attr read → read.base ≡ Some base → under ≡ get_or tables.attrs base under →
+pub in_table : (tables now : Tables) → AreWhole tables → tables ≡ now → (attr base place number : ℕ) (read under : AttrTables) → IsRead tables attr read → read.base ≡ Some base → under ≡ get_or tables.attrs base under →
     place < token_count now → number ≡ get_or under.numbers place 0 → number < length read.numbers
-in_table tables now known view attr base place number read under h some below m at =
-    let there = its_base tables known attr base read h some in
+in_table tables now whole view attr base place number read under h some below m at =
+    let there = its_base tables whole attr base read h some in
     let e : tables_at tables.attrs base ≡ under = read_is tables base under (record { within = there.0; is = below }) in
     let f : tables_at tables.attrs attr ≡ read = read_is tables attr read h in
-    let low = number_within tables known base there.0 there.1 place (omega (arith, ap (λ (t : Tables). token_count t) view)) in
-    omega (arith, low, at, ap (λ (t : AttrTables). get_or t.numbers place 0) e, table_long tables known attr base h.within (ap (λ (t : AttrTables). t.base) f ∙ some), ap (λ (t : AttrTables). length t.numbers) f)
+    let low : get_or (tables_at tables.attrs base).numbers place 0 < length (tables_at tables.attrs base).lexicon =
+    subst (λ b. number_by (tables_at tables.attrs base).numbers tables.attrs place b < length (tables_at tables.attrs base).lexicon) there.1 (whole.within base place there.0 (omega (arith, ap (λ (t : Tables). token_count t) view))) in
+    omega (arith, low, at, ap (λ (t : AttrTables). get_or t.numbers place 0) e, whole.mapped attr base h.within (ap (λ (t : AttrTables). t.base) f ∙ some), ap (λ (t : AttrTables). length t.numbers) f)
 
 -- the number that is read in the table of a mapped attribute
-pub number_read : (tables now : Tables) → AreTables tables → tables ≡ now → (attr base place : ℕ) (read under : AttrTables) → IsRead tables attr read → read.base ≡ Some base → under ≡ get_or tables.attrs base under →
+pub number_read : (tables now : Tables) → AreWhole tables → tables ≡ now → (attr base place : ℕ) (read under : AttrTables) → IsRead tables attr read → read.base ≡ Some base → under ≡ get_or tables.attrs base under →
     get_or read.numbers (get_or under.numbers place 0) 0 ≡ number_at now attr place
-number_read tables now known view attr base place read under h some below =
-    let there = its_base tables known attr base read h some in
+number_read tables now whole view attr base place read under h some below =
+    let there = its_base tables whole attr base read h some in
     let e : tables_at tables.attrs base ≡ under = read_is tables base under (record { within = there.0; is = below }) in
     let f : tables_at tables.attrs attr ≡ read = read_is tables attr read h in
     let inner : get_or read.numbers (get_or under.numbers place 0) 0 ≡ number_by read.numbers tables.attrs place (Some base) = ap (λ (t : AttrTables). get_or read.numbers (get_or t.numbers place 0) 0) (sym e) in
     inner ∙ ap (number_by read.numbers tables.attrs place) (sym some) ∙ ap (λ (t : AttrTables). number_by t.numbers tables.attrs place t.base) (sym f) ∙ ap (λ (t : Tables). number_at t attr place) view
 
 -- the posting list of a value is there
-pub list_there : (tables now : Tables) → AreTables tables → tables ≡ now → (attr number : ℕ) (read : AttrTables) → IsRead tables attr read → number < length (tables_at now.attrs attr).lexicon → number < length read.postings
-list_there tables now known view attr number read h l =
-    omega (arith, postings_many tables known attr h.within, ap (λ (t : AttrTables). length t.postings) (read_is tables attr read h), ap (λ (t : Tables). length (tables_at t.attrs attr).lexicon) view)
+pub list_there : (tables now : Tables) → AreWhole tables → tables ≡ now → (attr number : ℕ) (read : AttrTables) → IsRead tables attr read → number < length (tables_at now.attrs attr).lexicon → number < length read.postings
+list_there tables now whole view attr number read h l =
+    omega (arith, whole.postings attr h.within, ap (λ (t : AttrTables). length t.postings) (read_is tables attr read h), ap (λ (t : Tables). length (tables_at t.attrs attr).lexicon) view)
 
-pub list_read : (tables now : Tables) → AreTables tables → tables ≡ now → (attr number : ℕ) (read : AttrTables) → IsRead tables attr read → number < length (tables_at now.attrs attr).lexicon → (d : List ℕ) →
+pub list_read : (tables now : Tables) → AreWhole tables → tables ≡ now → (attr number : ℕ) (read : AttrTables) → IsRead tables attr read → number < length (tables_at now.attrs attr).lexicon → (d : List ℕ) →
     get_or read.postings number d ≡ get_or (tables_at now.attrs attr).postings number []
-list_read tables now known view attr number read h l d =
-    get_or_default read.postings number d [] (list_there tables now known view attr number read h l)
+list_read tables now whole view attr number read h l d =
+    get_or_default read.postings number d [] (list_there tables now whole view attr number read h l)
     ∙ ap (λ (t : AttrTables). get_or t.postings number []) (sym (read_is tables attr read h)) ∙ ap (λ (t : Tables). get_or (tables_at t.attrs attr).postings number []) view
 
 -- a text ends within the segment

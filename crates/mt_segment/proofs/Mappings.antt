@@ -1,5 +1,5 @@
 -- Mappers by name, and tables that come of images.
-use Rattle.std.proofs.Common.{◌≡◌, ℕ, suc, ◌+◌, ◌<◌, ◌≤◌, ◌==◌, Bool, true, false, not, cond, List, [], ◌∷◌, ◌++◌, length, map, take, get_or, set, slice_get, None, Some, Result, refl, sym, ◌∙◌, ap, ap₂, subst, arith, ◌⊎◌, inl, inr, if◌then◌else◌, true≢false, ◌↔◌, IsTrue}
+use Rattle.std.proofs.Common.{◌≡◌, ℕ, suc, ◌+◌, ◌<◌, ◌≤◌, ◌==◌, Bool, true, false, not, cond, List, [], ◌∷◌, ◌++◌, length, map, take, get_or, set, slice_get, Some, Result, refl, sym, ◌∙◌, ap, ap₂, subst, arith, ◌⊎◌, inl, inr, if◌then◌else◌, true≢false, ◌↔◌, IsTrue}
 use Rattle.std.specs.List.{All, Contains}
 use Rattle.std.specs.Option.{option_map}
 use Rattle.std.specs.Str.{bytes_eq}
@@ -15,9 +15,7 @@ use Rattle.std.proofs.lemmas.Option.{slice_get_within, slice_get-map, get_or_fro
 use Rattle.mt_text_spec.specs.Registries.{Attr}
 use Rattle.mt_store_spec.specs.Lexicons.{IsLexiconOf, Renumbers}
 use Rattle.mt_lexicon.specs.Joins.{renumbered}
-use Rattle.mt_lexicon.proofs.Renumbered.{numbers_within, renumbers_then}
-use Rattle.mt_mapper.specs.Calls.{counted}
-use Rattle.mt_mapper.proofs.Counts.{counted_none}
+use Rattle.mt_segment.proofs.Renumbered.{numbers_within, renumbers_then}
 use Rattle.mt_segment_spec.specs.Tables.{AttrTables, AreBaseTables, AreMappedTables}
 use Rattle.mt_segment.specs.Mappers.{AreMapped, AreCalled, Called, named, image_by, number_of}
 use Rattle.mt_segment.proofs.Calls.{not_called}

@@ -9,7 +9,7 @@ use Rattle.std.proofs.lemmas.List.Elements.{All-from_get_or, Contains-append_lef
 use Rattle.std.proofs.lemmas.Option.{slice_get-get_or, slice_get_within, slice_get-map, get_or_from_slice_get}
 use Rattle.mt_store_spec.specs.Lexicons.{IsLexiconOf, Renumbers, seen_with}
 use Rattle.mt_lexicon.specs.Joins.{renumbered}
-use Rattle.mt_lexicon.proofs.Renumbered.{here, renumbers_then}
+use Rattle.mt_segment.proofs.Renumbered.{here, renumbers_then}
 use Rattle.mt_segment.specs.Numbered.{IsNumbered, stands_for}
 
 -- ---- a value more

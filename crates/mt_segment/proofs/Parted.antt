@@ -7,7 +7,7 @@ use Rattle.std.proofs.lemmas.Simd.{map-map}
 use Rattle.mt_text_spec.specs.Registries.{Registry, Attr, base_attr}
 use Rattle.mt_text_spec.specs.Texts.{StructSpan, Text, total_tokens, corpus_tokens_limit}
 use Rattle.mt_segment_spec.specs.Tables.{Tables, AttrTables, AreTablesUnder, HaveParts, tables_at, instances_of, is_of_kind}
-use Rattle.mt_segment_laws.proofs.Values.{based}
+use Rattle.mt_segment.proofs.Values.{based}
 use Rattle.mt_segment.specs.Joined.{AreJoined, HasNumbers, TakesNumbers}
 use Rattle.mt_segment.specs.Lists.{groups}
 use Rattle.mt_segment.proofs.Blocks.{groups_joined, joined_length}

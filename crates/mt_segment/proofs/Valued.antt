@@ -6,9 +6,9 @@ use Rattle.std.proofs.lemmas.List.Sums.{sum-map, sum_by_more_le}
 use Rattle.std.proofs.lemmas.Option.{slice_get-get_or, slice_get_within, get_or_from_slice_get}
 use Rattle.mt_text_spec.specs.Texts.{Text, total_tokens}
 use Rattle.mt_store_spec.specs.Lexicons.{IsAscending, IsLexiconOf, Renumbers}
-use Rattle.mt_lexicon.proofs.Renumbered.{numbers_within}
+use Rattle.mt_segment.proofs.Renumbered.{numbers_within}
 use Rattle.mt_segment_spec.specs.Tables.{AttrTables, ArePlacesOf, ArePostingsOf, AreBaseTables, column_values}
-use Rattle.mt_segment_laws.proofs.Values.{length-column_values, one_number}
+use Rattle.mt_segment.proofs.Values.{length-column_values, one_number}
 use Rattle.mt_segment.specs.Parts.{AreInverted}
 
 -- ---- the values of texts

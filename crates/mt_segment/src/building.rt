@@ -17,6 +17,7 @@ use super::segment::Segment;
 use super::structs::all_instances;
 use super::table::{AttrTables, MappedTable, Numbers};
 use mt_base::{Attr, List, NoMemory, Registry, Text, Value};
+use mt_lexicon::have_one_lexicon;
 use mt_mapper::Mapper;
 use std::alloc::Global;
 
@@ -37,6 +38,7 @@ impl Segment {
         ensures same { named M.called M.image mappers.new ≡ named M.called M.image mappers.old }
         ensures calls { (t : spec.Tables) → AreTablesOf (image_by (named M.called M.image mappers.old)) registry.now texts.now t → AreCalled (calls_due (map M.called mappers.old) t.attrs registry.now.attrs) (map M.calls mappers.old) (map M.calls mappers.new) result }
     {
+        have_one_lexicon();
         let heads = heads(alloc, texts)?;
         let ends = ends(alloc, heads.as_slice())?;
         let attrs = registry.attrs().as_slice();

@@ -12,6 +12,7 @@ use super::table::{AttrTables, Column, MappedTable, Numbers};
 use mt_base::{List, Steps, StructSpan, Value};
 use mt_lexicon::Lexicon;
 use mt_postings::Postings;
+use mt_segment_laws::tables_are_whole;
 use std::marker::Model;
 use std::sync::ledger::Ledger;
 
@@ -106,6 +107,7 @@ impl Segment {
         ensures within { result < length (tables_at self.now.attrs attr).lexicon }
         ensures tick { steps.new ≡ steps.old + 1 }
     {
+        tables_are_whole();
         steps.tick();
         self.number(attr, pos)
     }
@@ -117,6 +119,7 @@ impl Segment {
         ensures number { result ≡ number_at self.now attr pos }
         ensures valid { AreTables self.now }
     {
+        tables_are_whole();
         let tables = self.attrs.get(attr as usize);
         let pos = pos as usize;
         match &tables.numbers {
@@ -133,6 +136,7 @@ impl Segment {
         requires id { id < length (tables_at self.now.attrs attr).lexicon }
         ensures { result.now ≡ slice_index_or (tables_at self.now.attrs attr).postings id [] }
     {
+        tables_are_whole();
         self.attrs.get(attr as usize).postings.get(id as usize)
     }
 

@@ -7,10 +7,8 @@ use Rattle.std.proofs.lemmas.List.Elements.{All-contains}
 use Rattle.std.proofs.lemmas.Option.{slice_get-get_or, slice_get_within}
 use Rattle.mt_text_spec.specs.Registries.{Registry}
 use Rattle.mt_text_spec.specs.Texts.{StructSpan, Text, total_tokens}
-use Rattle.mt_store_spec.specs.Positions.{ArePositions}
-use Rattle.mt_store_spec.specs.Lexicons.{IsAscending, Renumbers}
-use Rattle.mt_lexicon.proofs.Lexicons.{one_lexicon}
-use Rattle.mt_postings.proofs.Merging.{told_by_members}
+use Rattle.mt_store_spec.specs.Positions.{ArePositions, AreToldByMembers}
+use Rattle.mt_store_spec.specs.Lexicons.{HaveOneLexicon, IsAscending, Renumbers}
 use Rattle.mt_segment_spec.specs.Tables.{AttrTables, Tables, ArePlacesOf, ArePostingsOf, AreTablesOf, HaveValues, attr_at, attr_values, tables_at}
 use Rattle.mt_segment_laws.specs.Laws.{HaveOneTables}
 use Rattle.mt_segment_laws.proofs.Values.{based, have, length-attr_values, one_number}
@@ -24,7 +22,7 @@ one_renumbering a b old new up f g = same_lists a b (f.count ∙ sym g.count) (�
     get_or_default a k d 0 l ∙ same ∙ get_or_default b k 0 d (omega (arith, f.count, g.count)))
 
 -- one list of places
-module _ (value : List ℕ) (values : List (List ℕ)) (few : length values ≤ 4294967295) where
+module _ (told_by_members : AreToldByMembers) (value : List ℕ) (values : List (List ℕ)) (few : length values ≤ 4294967295) where
   positions : (places : List ℕ) → ArePlacesOf value values places → ArePositions places
   positions places h = record { ascending = h.ascending; in_range = λ k d l. omega (arith, few, slice_get_within values (get_or places k d) value (h.each k d l)) }
 
@@ -34,11 +32,11 @@ module _ (value : List ℕ) (values : List (List ℕ)) (few : length values ≤ 
   one_places : (a b : List ℕ) → ArePlacesOf value values a → ArePlacesOf value values b → a ≡ b
   one_places a b f g = told_by_members a b (positions a f) (positions b g) (λ p. (moved a b f g p, moved b a g f p))
 
-one_postings : (lexicon values : List (List ℕ)) (a b : List (List ℕ)) → length values ≤ 4294967295 → ArePostingsOf lexicon values a → ArePostingsOf lexicon values b → a ≡ b
-one_postings lexicon values a b few f g = same_lists a b (f.count ∙ sym g.count) (λ k d l.
+one_postings : AreToldByMembers → (lexicon values : List (List ℕ)) (a b : List (List ℕ)) → length values ≤ 4294967295 → ArePostingsOf lexicon values a → ArePostingsOf lexicon values b → a ≡ b
+one_postings told lexicon values a b few f g = same_lists a b (f.count ∙ sym g.count) (λ k d l.
     let low : k < length lexicon = omega (arith, f.count) in
     let there : slice_get lexicon k ≡ Some (get_or lexicon k []) = slice_get-get_or lexicon k [] low in
-    let same : get_or a k [] ≡ get_or b k [] = one_places (get_or lexicon k []) values few (get_or a k []) (get_or b k []) (f.each k (get_or lexicon k []) there) (g.each k (get_or lexicon k []) there) in
+    let same : get_or a k [] ≡ get_or b k [] = one_places told (get_or lexicon k []) values few (get_or a k []) (get_or b k []) (f.each k (get_or lexicon k []) there) (g.each k (get_or lexicon k []) there) in
     get_or_default a k d [] l ∙ same ∙ get_or_default b k [] d (omega (arith, f.count, g.count)))
 
 in_parts : (a b : AttrTables) → a.base ≡ b.base → a.lexicon ≡ b.lexicon → a.numbers ≡ b.numbers → a.postings ≡ b.postings → a ≡ b
@@ -47,15 +45,15 @@ in_parts a b base lexicon numbers postings =
     ap (λ (o : Option ℕ). made o a.lexicon a.numbers a.postings) base ∙ ap (λ (l : List (List ℕ)). made b.base l a.numbers a.postings) lexicon
     ∙ ap (λ (n : List ℕ). made b.base b.lexicon n a.postings) numbers ∙ ap (λ (p : List (List ℕ)). made b.base b.lexicon b.numbers p) postings
 
-one_attr : (values numbered : List (List ℕ)) (a b : AttrTables) → length values ≤ 4294967295 → a.base ≡ b.base → HaveValues values a → HaveValues values b → Renumbers a.numbers numbered a.lexicon → Renumbers b.numbers numbered b.lexicon →
+one_attr : HaveOneLexicon → AreToldByMembers → (values numbered : List (List ℕ)) (a b : AttrTables) → length values ≤ 4294967295 → a.base ≡ b.base → HaveValues values a → HaveValues values b → Renumbers a.numbers numbered a.lexicon → Renumbers b.numbers numbered b.lexicon →
     a ≡ b
-one_attr values numbered a b few base f g first second =
+one_attr one_lexicon told values numbered a b few base f g first second =
     let same : a.lexicon ≡ b.lexicon = one_lexicon values a.lexicon b.lexicon f.lexicon g.lexicon in
     let numbers : Renumbers b.numbers numbered a.lexicon = subst (Renumbers b.numbers numbered) (sym same) second in
     let postings : ArePostingsOf a.lexicon values b.postings = subst (λ (l : List (List ℕ)). ArePostingsOf l values b.postings) (sym same) g.postings in
-    in_parts a b base same (one_renumbering a.numbers b.numbers numbered a.lexicon f.lexicon.ascending first numbers) (one_postings a.lexicon values a.postings b.postings few f.postings postings)
+    in_parts a b base same (one_renumbering a.numbers b.numbers numbered a.lexicon f.lexicon.ascending first numbers) (one_postings told a.lexicon values a.postings b.postings few f.postings postings)
 
-module _ (images : List ℕ → List ℕ → List ℕ) (registry : Registry) (corpus : List Text) (a b : Tables) (f : AreTablesOf images registry corpus a) (g : AreTablesOf images registry corpus b) where
+module _ (one_lexicon : HaveOneLexicon) (told : AreToldByMembers) (images : List ℕ → List ℕ → List ℕ) (registry : Registry) (corpus : List Text) (a b : Tables) (f : AreTablesOf images registry corpus a) (g : AreTablesOf images registry corpus b) where
   -- the lexicon of an attribute, also where there is none
   pub same_lexicon : (number : ℕ) → (tables_at a.attrs number).lexicon ≡ (tables_at b.attrs number).lexicon
   same_lexicon number = by (cases_lt number (length registry.attrs))
@@ -73,7 +71,7 @@ module _ (images : List ℕ → List ℕ → List ℕ) (registry : Registry) (co
       one : (numbered : List (List ℕ)) → Renumbers (tables_at a.attrs number).numbers numbered (tables_at a.attrs number).lexicon → Renumbers (tables_at b.attrs number).numbers numbered (tables_at b.attrs number).lexicon →
           tables_at a.attrs number ≡ tables_at b.attrs number
       one numbered first second =
-          one_attr (attr_values images registry corpus number) numbered (tables_at a.attrs number) (tables_at b.attrs number) few (based images registry corpus a f number l ∙ sym (based images registry corpus b g number l))
+          one_attr one_lexicon told (attr_values images registry corpus number) numbered (tables_at a.attrs number) (tables_at b.attrs number) few (based images registry corpus a f number l ∙ sym (based images registry corpus b g number l))
           (have images registry corpus a f number l) (have images registry corpus b g number l) first second
 
       by : (base : Option ℕ) → (attr_at registry number).base ≡ base → tables_at a.attrs number ≡ tables_at b.attrs number
@@ -93,8 +91,8 @@ module _ (images : List ℕ → List ℕ → List ℕ) (registry : Registry) (co
       let low : k < length registry.kinds = omega (arith, f.kind_count) in
       get_or_default a.structs k d [] l ∙ f.structs k low ∙ sym (g.structs k low) ∙ get_or_default b.structs k [] d (omega (arith, f.kind_count, g.kind_count)))
 
-pub one_tables : HaveOneTables
-one_tables images registry corpus a b valid f g =
+pub one_tables : HaveOneLexicon → AreToldByMembers → HaveOneTables
+one_tables one_lexicon told images registry corpus a b valid f g =
     let made : List (List ℕ × ℕ) → List AttrTables → List (List (List StructSpan)) → Tables = λ t x s. record { texts = t; attrs = x; structs = s } in
-    ap (λ (t : List (List ℕ × ℕ)). made t a.attrs a.structs) (f.texts ∙ sym g.texts) ∙ ap (λ (x : List AttrTables). made b.texts x a.structs) (same_attrs images registry corpus a b f g (omega (arith, valid.short)))
-    ∙ ap (made b.texts b.attrs) (same_structs images registry corpus a b f g)
+    ap (λ (t : List (List ℕ × ℕ)). made t a.attrs a.structs) (f.texts ∙ sym g.texts) ∙ ap (λ (x : List AttrTables). made b.texts x a.structs) (same_attrs one_lexicon told images registry corpus a b f g (omega (arith, valid.short)))
+    ∙ ap (made b.texts b.attrs) (same_structs one_lexicon told images registry corpus a b f g)

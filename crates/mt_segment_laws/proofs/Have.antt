@@ -11,8 +11,7 @@ use Rattle.std.proofs.lemmas.List.Kept.{IsStrictlyIncreasing-filter}
 use Rattle.std.proofs.lemmas.Option.{slice_get-get_or, slice_get_within, get_or_from_slice_get}
 use Rattle.mt_text_spec.specs.Registries.{Registry, ValidRegistry}
 use Rattle.mt_text_spec.specs.Texts.{Text}
-use Rattle.mt_store_spec.specs.Lexicons.{IsLexiconOf, Renumbers}
-use Rattle.mt_lexicon.proofs.Lexicons.{a_lexicon}
+use Rattle.mt_store_spec.specs.Lexicons.{HaveALexicon, IsLexiconOf, Renumbers}
 use Rattle.mt_segment_spec.specs.Tables.{AttrTables, Tables, ArePlacesOf, ArePostingsOf, AreBaseTables, AreMappedTables, AreTablesOf, HaveValues, attr_at, attr_values, heads_of, instances_of, tables_at}
 use Rattle.mt_segment_laws.specs.Laws.{HaveTables}
 use Rattle.mt_segment_laws.proofs.Values.{base_is, image_values}
@@ -123,7 +122,7 @@ some_attr base values numbered lexicon is there =
     let tables : AttrTables = record { base = base; lexicon = lexicon; numbers = numbers.0; postings = map (places values) lexicon } in
     (tables, record { based = refl; same = refl; have = record { lexicon = is; postings = some_postings values lexicon }; numbers = numbers.1 })
 
-module _ (images : List ℕ → List ℕ → List ℕ) (registry : Registry) (corpus : List Text) (valid : ValidRegistry registry) where
+module _ (a_lexicon : HaveALexicon) (images : List ℕ → List ℕ → List ℕ) (registry : Registry) (corpus : List Text) (valid : ValidRegistry registry) where
   -- the lexicon of an attribute
   lexicon : (number : ℕ) → (lexicon : List (List ℕ)) × IsLexiconOf (attr_values images registry corpus number) lexicon
   lexicon number = a_lexicon (attr_values images registry corpus number)
@@ -199,5 +198,5 @@ module _ (images : List ℕ → List ℕ → List ℕ) (registry : Registry) (co
     },
   )
 
-pub some_tables : HaveTables
-some_tables images registry corpus valid = all_tables images registry corpus valid
+pub some_tables : HaveALexicon → HaveTables
+some_tables a_lexicon images registry corpus valid = all_tables a_lexicon images registry corpus valid

@@ -1,11 +1,10 @@
 -- What is known of the tables of texts.
-use Rattle.std.proofs.Common.{◌≡◌, ℕ, ◌<◌, List, length, map, sum, get_or, None, Some, sym, ◌∙◌, ap, arith}
+use Rattle.std.proofs.Common.{◌≡◌, ℕ, ◌<◌, List, length, map, sum, None, Some, sym, ◌∙◌, ap, arith}
 use Rattle.std.proofs.lemmas.List.{length-map}
 use Rattle.std.proofs.lemmas.Simd.{map-map}
 use Rattle.mt_text_spec.specs.Registries.{Registry}
 use Rattle.mt_text_spec.specs.Texts.{Text, total_tokens}
 use Rattle.mt_store_spec.specs.Lexicons.{Renumbers}
-use Rattle.mt_lexicon.proofs.Renumbered.{numbers_within}
 use Rattle.mt_segment_spec.specs.Tables.{Tables, AreTables, AreTablesOf, attr_at, attr_values, heads_of, tables_at, token_count}
 use Rattle.mt_segment_laws.proofs.Values.{base_is, based, have, length-attr_values}
 
@@ -45,13 +44,6 @@ module _ (tables : Tables) (known : AreTables tables) where
       let within : number < length known.registry.attrs = omega (arith, by.are.attr_count) in
       let (low, none) = base_is known.registry by.valid number base within (sym (based known.under.images known.registry by.corpus tables by.are number within) ∙ some) in
       (omega (arith, low, by.are.attr_count), based known.under.images known.registry by.corpus tables by.are base low ∙ none)
-
-  pub number_within : (number : ℕ) → number < length tables.attrs → (tables_at tables.attrs number).base ≡ None → (place : ℕ) → place < token_count tables →
-      get_or (tables_at tables.attrs number).numbers place 0 < length (tables_at tables.attrs number).lexicon
-  number_within number l none place m =
-      let by = known.under.by in
-      numbers_within (tables_at tables.attrs number).numbers (attr_values known.under.images known.registry by.corpus number) (tables_at tables.attrs number).lexicon
-      (column_is known.under.images known.registry by.corpus tables by.are number l none) place 0 (omega (arith, column_long number l none))
 
   pub table_long : (number base : ℕ) → number < length tables.attrs → (tables_at tables.attrs number).base ≡ Some base → length (tables_at tables.attrs number).numbers ≡ length (tables_at tables.attrs base).lexicon
   table_long number base l some =

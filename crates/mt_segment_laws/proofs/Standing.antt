@@ -6,8 +6,8 @@ use Rattle.std.proofs.lemmas.Option.{slice_get-get_or, slice_get-map, slice_get_
 use Rattle.mt_text_spec.specs.Registries.{Registry, ValidRegistry}
 use Rattle.mt_text_spec.specs.Texts.{Text}
 use Rattle.mt_segment_spec.specs.Tables.{Tables, AreTables, AreTablesOf, attr_at, attr_values, number_at, number_by, tables_at, token_count}
-use Rattle.mt_segment_laws.specs.Laws.{NumbersStandForValues}
-use Rattle.mt_segment_laws.proofs.Known.{column_is, table_is, values_long}
+use Rattle.mt_segment_laws.specs.Laws.{NumbersStandForValues, TablesAreWhole}
+use Rattle.mt_segment_laws.proofs.Known.{base_there, column_is, column_long, postings_many, table_is, table_long, values_long}
 use Rattle.mt_segment_laws.proofs.Values.{base_is, based, image_values}
 
 module _ (images : List ℕ → List ℕ → List ℕ) (registry : Registry) (corpus : List Text) (tables : Tables) (valid : ValidRegistry registry) (are : AreTablesOf images registry corpus tables) where
@@ -48,9 +48,18 @@ stand_for_values images registry corpus tables valid are attr place l m = by (ta
     by (Some base) some = at_mapped images registry corpus tables valid are attr base place l some m
 
 -- so it is one of the lexicon's
-pub number_low : (tables : Tables) → AreTables tables → (attr place number : ℕ) → number ≡ number_at tables attr place → attr < length tables.attrs → place < token_count tables → number < length (tables_at tables.attrs attr).lexicon
+number_low : (tables : Tables) → AreTables tables → (attr place number : ℕ) → number ≡ number_at tables attr place → attr < length tables.attrs → place < token_count tables → number < length (tables_at tables.attrs attr).lexicon
 number_low tables known attr place number e l m =
     let under = known.under in
     rw e
     (slice_get_within (tables_at tables.attrs attr).lexicon (number_at tables attr place) (get_or (attr_values under.images known.registry under.by.corpus attr) place [])
     (stand_for_values under.images known.registry under.by.corpus tables under.by.valid under.by.are attr place l m))
+
+pub are_whole : TablesAreWhole
+are_whole tables known = record {
+  columns = column_long tables known;
+  bases = base_there tables known;
+  mapped = table_long tables known;
+  postings = postings_many tables known;
+  within = λ attr place l m. number_low tables known attr place (number_at tables attr place) refl l m;
+}

@@ -17,10 +17,6 @@ use Rattle.mt_segment_spec.specs.Tables.{Tables, AreTablesOf, HaveValues, attr_a
 
 -- ---- how many there are
 
-pub length-column_values : (column : ℕ) (corpus : List Text) → length (column_values column corpus) ≡ total_tokens corpus
-length-column_values column corpus =
-    length-map (tokens_of corpus) (λ token. value_of token column) ∙ length-flat_map (λ (text : Text). text.tokens) corpus ∙ sym (sum-map (λ (text : Text). length text.tokens) corpus)
-
 pub length-attr_values : (images : List ℕ → List ℕ → List ℕ) (registry : Registry) (corpus : List Text) (number : ℕ) → length (attr_values images registry corpus number) ≡ total_tokens corpus
 length-attr_values images registry corpus number =
     length-map (tokens_of corpus) (attr_value images registry number) ∙ length-flat_map (λ (text : Text). text.tokens) corpus ∙ sym (sum-map (λ (text : Text). length text.tokens) corpus)

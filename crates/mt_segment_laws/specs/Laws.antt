@@ -1,9 +1,9 @@
 -- Laws of the tables of texts.
-use Rattle.std.specs.Prelude.{ℕ, ◌≡◌, ◌+◌, ◌<◌, ◌≤◌, List, [], ◌++◌, length, filter, slice_get, slice_index_or, Some}
+use Rattle.std.specs.Prelude.{ℕ, ◌≡◌, ◌+◌, ◌<◌, ◌≤◌, List, [], ◌++◌, length, filter, slice_get, slice_index_or, None, Some}
 use Rattle.std.specs.List.{All, AllPairs}
 use Rattle.mt_text_spec.specs.Registries.{Registry, ValidRegistry}
 use Rattle.mt_text_spec.specs.Texts.{StructSpan, Text, ValidCorpus, tokens_of}
-use Rattle.mt_segment_spec.specs.Tables.{Tables, AreTablesOf, attr_values, first_place, is_of_kind, number_at, tables_at, token_count}
+use Rattle.mt_segment_spec.specs.Tables.{Tables, AreTables, AreTablesOf, attr_values, first_place, is_of_kind, number_at, tables_at, token_count}
 use Rattle.mt_segment_laws.specs.Both.{AreTablesOfBoth}
 
 -- texts have tables, whatever the images are
@@ -19,6 +19,18 @@ abbrev pub NumbersStandForValues : Type 0
 NumbersStandForValues = (images : List ℕ → List ℕ → List ℕ) (registry : Registry) (corpus : List Text) (tables : Tables) → ValidRegistry registry → AreTablesOf images registry corpus tables →
     (attr place : ℕ) → attr < length tables.attrs → place < token_count tables →
     slice_get (tables_at tables.attrs attr).lexicon (number_at tables attr place) ≡ Some (slice_index_or (attr_values images registry corpus attr) place [])
+
+-- Tables are whole: a base attribute has a number for each token, a mapped one for each value of its base, which is a base attribute, each attribute has a
+-- posting list for each value, and a number at a place is that of a value.
+pub record AreWhole (tables : Tables) : Type 0 where
+  pub columns : (attr : ℕ) → attr < length tables.attrs → (tables_at tables.attrs attr).base ≡ None → length (tables_at tables.attrs attr).numbers ≡ token_count tables
+  pub bases : (attr base : ℕ) → attr < length tables.attrs → (tables_at tables.attrs attr).base ≡ Some base → (base < length tables.attrs) × ((tables_at tables.attrs base).base ≡ None)
+  pub mapped : (attr base : ℕ) → attr < length tables.attrs → (tables_at tables.attrs attr).base ≡ Some base → length (tables_at tables.attrs attr).numbers ≡ length (tables_at tables.attrs base).lexicon
+  pub postings : (attr : ℕ) → attr < length tables.attrs → length (tables_at tables.attrs attr).postings ≡ length (tables_at tables.attrs attr).lexicon
+  pub within : (attr place : ℕ) → attr < length tables.attrs → place < token_count tables → number_at tables attr place < length (tables_at tables.attrs attr).lexicon
+
+abbrev pub TablesAreWhole : Type 0
+TablesAreWhole = (tables : Tables) → AreTables tables → AreWhole tables
 
 -- the token with a number in a text stands so far behind the text's first place
 abbrev pub TokensStandInTexts : Type 0

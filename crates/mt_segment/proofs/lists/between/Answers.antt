@@ -1,4 +1,4 @@
-use Rattle.std.proofs.Common.{◌≤◌, length, sym, ◌∙◌, ap₂, arith}
+use Rattle.std.proofs.Common.{◌≤◌, length, ◌∙◌, ap₂, arith}
 use Rattle.std.specs.Prelude.{slice_range}
 use Rattle.mt_segment.proofs.Blocks.{at_most, joined_parts, rises}
 use Rattle.mt_segment.proofs.lists.between.Goals as goal

@@ -1,7 +1,6 @@
 use Rattle.std.proofs.Common.{ℕ, ◌+◌, length, ◌∙◌, ap, arith}
 use Rattle.mt_mapper.specs.Calls.{counted}
-use Rattle.mt_mapper.proofs.Counts.{counted_more}
-use Rattle.mt_segment.proofs.Calls.{called_all, called_some}
+use Rattle.mt_segment.proofs.Calls.{called_some, counted_more}
 use Rattle.mt_segment.proofs.Mappings.{images_more}
 use Rattle.mt_segment.proofs.mapped.number_images.Goals as goal
 

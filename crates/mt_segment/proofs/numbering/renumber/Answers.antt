@@ -1,5 +1,5 @@
-use Rattle.std.proofs.Common.{refl, arith, slice_index}
-use Rattle.mt_lexicon.proofs.Renumbered.{one_changed_more}
+use Rattle.std.proofs.Common.{arith, slice_index}
+use Rattle.mt_segment.proofs.Renumbered.{one_changed_more}
 use Rattle.mt_segment.proofs.Numbered.{not_yet_changed}
 use Rattle.mt_segment.proofs.numbering.renumber.Goals as goal
 

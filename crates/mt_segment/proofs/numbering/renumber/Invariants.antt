@@ -1,6 +1,6 @@
 -- The numbers before the index are renumbered, and those from it on are as they were.
 use Rattle.std.proofs.Common.{slice_index}
-use Rattle.mt_lexicon.proofs.Renumbered.{ChangesUpTo}
+use Rattle.mt_segment.proofs.Renumbered.{ChangesUpTo}
 use Rattle.mt_segment.proofs.numbering.renumber.Given as goal
 
 abbrev pub invariant-loop-number : goal.invariant-loop-number

@@ -1,4 +1,4 @@
-use Rattle.std.proofs.Common.{[], ◌∷◌, ◌++◌, ◌+◌, ◌==◌, ◌≡◌, true, false, take, length, sym, ◌∙◌, ap}
+use Rattle.std.proofs.Common.{[], ◌∷◌, ◌++◌, take, sym, ◌∙◌, ap}
 use Rattle.std.specs.List.{filter}
 use Rattle.mt_segment_spec.specs.Tables.{is_of_kind}
 use Rattle.mt_segment.proofs.Instances.{some_before, span_kept, span_passed}

@@ -1,5 +1,5 @@
-use Rattle.std.proofs.Common.{rules, ◌≡◌, ℕ, [], ◌∷◌, ◌++◌, length, ◌∙◌, ap, subst, sym}
-use Rattle.mt_segment.specs.Lists.{parts, AreBegins}
+use Rattle.std.proofs.Common.{rules, ◌≡◌, ℕ, [], ◌∷◌, ◌++◌, length, ◌∙◌, ap}
+use Rattle.mt_segment.specs.Lists.{parts}
 use Rattle.mt_segment.proofs.Blocks.{begins_push, parts_begin}
 use Rattle.mt_segment.proofs.lists.Lists.begin.Goals as goal
 

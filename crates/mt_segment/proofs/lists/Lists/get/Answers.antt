@@ -1,4 +1,4 @@
-use Rattle.std.proofs.Common.{◌+◌, ◌-◌, ◌<◌, length, take, drop, refl, ◌∙◌, ap, ap₂, arith}
+use Rattle.std.proofs.Common.{◌+◌, ◌-◌, length, take, drop, refl, ◌∙◌, ap, ap₂, arith}
 use Rattle.std.specs.List.{flat_map}
 use Rattle.mt_segment.specs.Lists.{parts}
 use Rattle.mt_segment.proofs.Blocks.{length-parts, one_list}

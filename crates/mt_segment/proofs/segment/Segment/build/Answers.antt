@@ -20,7 +20,7 @@ first g c =
 calls : (g : given.Over) (c : After-map_all g) → AreFirst c.args.registry.now c.args.texts.now c.as_mut_slice.result.now →
     (t : Tables) → AreTablesOf (image_by (named g.M.Mapper.called g.M.Mapper.image c.args.mappers.now)) c.args.registry.now c.args.texts.now t →
     AreCalled (calls_due (map g.M.Mapper.called c.args.mappers.now) t.attrs c.args.registry.now.attrs) (map g.M.Mapper.calls c.args.mappers.now) (map g.M.Mapper.calls c.map_all.new.mappers) c.map_all.result
-calls g c is_first t are = called_by_tables _ _ _ _ t is_first are (map g.M.Mapper.called c.args.mappers.now) _ _ c.map_all.result (rw (c.as_slice-attrs.ensures ∙ c.attrs.ensures) at c.map_all.ensures.calls)
+calls g c is_first t are = called_by_tables c.have_one_lexicon.ensures _ _ _ _ t is_first are (map g.M.Mapper.called c.args.mappers.now) _ _ c.map_all.result (rw (c.as_slice-attrs.ensures ∙ c.attrs.ensures) at c.map_all.ensures.calls)
 
 -- and all tables are those of the texts
 tables_made : (g : given.Over) → After-from_vec g → Tables

@@ -1,4 +1,4 @@
-use Rattle.std.proofs.Common.{◌≡◌, ℕ, ◌<◌, None, Some, length, get_or, ap, ap₂, arith, sym, ◌∙◌}
+use Rattle.std.proofs.Common.{◌≡◌, None, Some, length, get_or, ap, ap₂, arith, sym, ◌∙◌}
 use Rattle.mt_segment_spec.specs.Tables.{AttrTables, Tables}
 use Rattle.mt_segment.specs.Lists.{groups}
 use Rattle.mt_segment.specs.Numbers.{base_in, numbers_in}
@@ -24,26 +24,26 @@ under c = c.as_slice-in-Mapped.ensures ∙ ap (λ (t : AttrTables). t.numbers) c
 pub bounds-as_slice-pos : goal.bounds-as_slice-pos
 bounds-as_slice-pos c =
     let none : c.get-tables.result.now.base ≡ None = ap (λ (t : AttrTables). t.base) (sym c.tables.view_is) ∙ ap base_in c.in-Base.is in
-    omega (arith, in_column _ _ c.self.invariant.0 c.self.view_is _ c.args.pos _ (its (goal.at.bounds-as_slice-pos c).After-tables) none c.requires.pos, ap length (c.as_slice.ensures ∙ ap (λ (t : AttrTables). t.numbers) c.tables.view_is))
+    omega (arith, in_column _ _ (c.tables_are_whole.ensures _ c.self.invariant.0) c.self.view_is _ c.args.pos _ (its (goal.at.bounds-as_slice-pos c).After-tables) none c.requires.pos, ap length (c.as_slice.ensures ∙ ap (λ (t : AttrTables). t.numbers) c.tables.view_is))
 
 pub get-requires : goal.get-requires
 get-requires c =
     let at = goal.at.get-requires c in
-    (its_base _ c.self.invariant.0 _ _ _ (its at.After-tables) (mapped at.In-Mapped)).0
+    (its_base _ (c.tables_are_whole.ensures _ c.self.invariant.0) _ _ _ (its at.After-tables) (mapped at.In-Mapped)).0
 
 pub bounds-as_slice-pos-in-Mapped : goal.bounds-as_slice-pos-in-Mapped
 bounds-as_slice-pos-in-Mapped c =
     let at = goal.at.bounds-as_slice-pos-in-Mapped c in
-    omega (arith, in_base_column _ _ c.self.invariant.0 c.self.view_is _ _ c.args.pos _ _ (its at.After-tables) (mapped at.In-Mapped) c.get.ensures c.requires.pos, ap length (under at.After-as_slice-in-Mapped))
+    omega (arith, in_base_column _ _ (c.tables_are_whole.ensures _ c.self.invariant.0) c.self.view_is _ _ c.args.pos _ _ (its at.After-tables) (mapped at.In-Mapped) c.get.ensures c.requires.pos, ap length (under at.After-as_slice-in-Mapped))
 
 pub get-requires-in-Mapped : goal.get-requires-in-Mapped
 get-requires-in-Mapped c =
     let at = goal.at.get-requires-in-Mapped c in
     rw (its_table at.In-Mapped)
-    (in_table _ _ c.self.invariant.0 c.self.view_is _ _ c.args.pos _ _ _ (its at.After-tables) (mapped at.In-Mapped) c.get.ensures c.requires.pos (ap (λ ns. get_or ns c.args.pos 0) (under at.After-as_slice-in-Mapped)))
+    (in_table _ _ (c.tables_are_whole.ensures _ c.self.invariant.0) c.self.view_is _ _ c.args.pos _ _ _ (its at.After-tables) (mapped at.In-Mapped) c.get.ensures c.requires.pos (ap (λ ns. get_or ns c.args.pos 0) (under at.After-as_slice-in-Mapped)))
 
 pub returns-in-Mapped-clause-number : goal.returns-in-Mapped-clause-number
 returns-in-Mapped-clause-number c =
     let at = goal.at.returns-in-Mapped-clause-number c in
     c.get-in-Mapped.ensures ∙ ap₂ (λ ns us. get_or ns (get_or us c.args.pos 0) 0) (its_table at.In-Mapped) (under at.After-as_slice-in-Mapped)
-    ∙ number_read _ _ c.self.invariant.0 c.self.view_is _ _ c.args.pos _ _ (its at.After-tables) (mapped at.In-Mapped) c.get.ensures
+    ∙ number_read _ _ (c.tables_are_whole.ensures _ c.self.invariant.0) c.self.view_is _ _ c.args.pos _ _ (its at.After-tables) (mapped at.In-Mapped) c.get.ensures
