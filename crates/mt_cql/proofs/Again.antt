@@ -6,7 +6,7 @@ use Rattle.mt_query_spec.specs.Verdicts as v
 use Rattle.mt_cql.specs.declared.query.Query.{Query}
 use Rattle.mt_cql.specs.declared.query.QueryError.{QueryError}
 use Rattle.mt_cql.specs.declared.query.QueryError.TheVariants as error
-use Rattle.mt_cql.specs.Shape.{query_seen, cause_seen}
+use Rattle.mt_cql.specs.Read.{cause_seen}
 use Rattle.mt_cql.specs.Answered.{Answered}
 use Rattle.mt_cql.specs.Again.{IsAgain}
 
@@ -18,7 +18,7 @@ module _ (one : OneMeaning) where
   -- the parser answers with the query that a text means, or wants memory
   pub is_again : (registry : Registry) (default : ℕ) (text : List ℕ) (query : q.Query) (again : Result Query QueryError) →
       v.Means registry default text (Ok query) → Answered registry default text again → IsAgain query again
-  is_again registry default text query (Ok read) m a = let e : Ok (query_seen read) ≡ Ok query = one registry default text _ _ a m in cc
+  is_again registry default text query (Ok read) m a = let e : Ok read ≡ Ok query = one registry default text _ _ a m in cc
   is_again registry default text query (Err (error.Syntax at cause)) m a = let e : Err (v.Syntax at (cause_seen cause)) ≡ Ok query = one registry default text _ _ a m in cc
   is_again registry default text query (Err (error.Unknown at)) m a = let e : Err (v.Unknown at) ≡ Ok query = one registry default text _ _ a m in cc
   is_again registry default text query (Err error.TooLarge) m a = let e : Err v.TooLarge ≡ Ok query = one registry default text _ _ a m in cc

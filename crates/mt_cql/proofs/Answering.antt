@@ -10,7 +10,7 @@ use Rattle.mt_cql.specs.declared.query.Query.{Query}
 use Rattle.mt_cql.specs.declared.query.QueryError.{QueryError}
 use Rattle.mt_cql.specs.declared.query.QueryError.TheVariants.{Syntax, Unknown, TooLarge, NoMemory}
 use Rattle.mt_cql.specs.Answered.{Answered}
-use Rattle.mt_cql.specs.Shape.{Said, query_seen}
+use Rattle.mt_cql.specs.Read.{Said}
 use Rattle.mt_query_laws.specs.Reading.{Answer, answer, read}
 
 module _ (registry : Registry) (default : ℕ) (text : List ℕ) (answer_means : Means registry default text (answer registry default text)) where
@@ -30,6 +30,6 @@ module _ (registry : Registry) (default : ℕ) (text : List ℕ) (answer_means :
 
 -- what is read is valid, where each query is that the text means
 pub valid_if_read : (registry : Registry) (default : ℕ) (text : List ℕ) → ((query : q.Query) → Means registry default text (Ok query) → ValidQuery registry query)
-    → (result : Result Query QueryError) → Answered registry default text result → IfOk result (λ query. ValidQuery registry (query_seen query))
-valid_if_read registry default text law (Ok query) h = law (query_seen query) h
+    → (result : Result Query QueryError) → Answered registry default text result → IfOk result (λ query. ValidQuery registry query)
+valid_if_read registry default text law (Ok query) h = law query h
 valid_if_read registry default text law (Err e) h = tt

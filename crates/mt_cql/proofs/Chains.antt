@@ -5,7 +5,7 @@ use Rattle.std.proofs.lemmas.List.{reverse-append}
 use Rattle.mt_text_spec.specs.Queries as q
 use Rattle.mt_query_spec.specs.Meaning.{FilterOf, chained}
 use Rattle.mt_cql.specs.declared.query.Filter.{Filter}
-use Rattle.mt_cql.specs.Shape.{filter_seen}
+use Rattle.mt_cql.specs.Read.{filter_seen}
 
 abbrev pub chained_onto : List FilterOf → q.Filters → q.Filters
 chained_onto [] rest = rest

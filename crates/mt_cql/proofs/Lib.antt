@@ -8,3 +8,4 @@ pub mod Cutting
 pub mod TextLaws
 pub mod Answering
 pub mod Again
+pub mod SameTexts

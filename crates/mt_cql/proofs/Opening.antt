@@ -6,7 +6,7 @@ use Rattle.mt_cql.specs.declared.parts.Part.{Part}
 use Rattle.mt_cql.specs.declared.state.Group.{Group}
 use Rattle.mt_cql.specs.declared.state.Head.{Head}
 use Rattle.mt_cql.specs.declared.state.State.{State}
-use Rattle.mt_cql.specs.Shape.{part_seen}
+use Rattle.mt_cql.specs.Read.{part_seen}
 use Rattle.mt_cql.specs.declared.reader.Reader.{Reader}
 use Rattle.mt_query_laws.specs.Exprs.{before_op, opened_operand}
 use Rattle.mt_query_laws.specs.Parts as p

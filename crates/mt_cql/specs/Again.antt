@@ -4,9 +4,8 @@ use Rattle.mt_text_spec.specs.Queries as q
 use Rattle.mt_cql.specs.declared.query.Query.{Query}
 use Rattle.mt_cql.specs.declared.query.QueryError.{QueryError}
 use Rattle.mt_cql.specs.declared.query.QueryError.TheVariants as error
-use Rattle.mt_cql.specs.Shape.{query_seen}
 
 -- the answer is this query, or want of memory
 abbrev pub IsAgain : q.Query → Result Query QueryError → Type 0
-IsAgain query (Ok again) = query_seen again ≡ query
+IsAgain query (Ok again) = again ≡ query
 IsAgain query (Err e) = e ≡ error.NoMemory

@@ -1,5 +1,6 @@
 pub mod Seen
 pub mod Shape
+pub mod Read
 pub mod Texts
 pub mod Named
 pub mod Ranks
@@ -8,3 +9,5 @@ pub mod StateSeen
 pub mod TextSeen
 pub mod Answered
 pub mod Again
+pub mod Codes
+pub mod Same

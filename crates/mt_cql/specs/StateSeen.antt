@@ -27,7 +27,7 @@ use Rattle.mt_cql.specs.declared.state.Phase.TheVariants as phase
 use Rattle.mt_query_laws.specs.Parts as p
 use Rattle.mt_query_laws.specs.Exprs as e
 use Rattle.mt_query_laws.specs.Reading.{PartState}
-use Rattle.mt_cql.specs.Shape.{part_seen, filters_seen, conds_seen, label_seen, cause_seen}
+use Rattle.mt_cql.specs.Read.{part_seen, filters_seen, conds_seen, label_seen, cause_seen}
 use Rattle.mt_cql.specs.TestSeen.{tests_seen}
 
 abbrev pub maybe_part_seen : Option Part → Option p.Part

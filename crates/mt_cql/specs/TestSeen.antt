@@ -13,7 +13,7 @@ use Rattle.mt_cql.specs.declared.tests.TestPhase.TheVariants.{Wanted, Named, Com
 use Rattle.mt_query_laws.specs.Machine as m
 use Rattle.mt_cql.specs.Named.{names_in}
 use Rattle.mt_query_laws.specs.Parts as p
-use Rattle.mt_cql.specs.Shape.{test_part_seen}
+use Rattle.mt_cql.specs.Read.{test_part_seen}
 
 -- the tests that name these attributes, where a bare string is a pattern for an attribute or is no test
 abbrev pub test_ways : List (List ℕ) → Option ℕ → m.TestWays p.TestParts

@@ -3,7 +3,7 @@
 ghost use Rattle.std.specs.Prelude.{◌≡◌, [], ◌∷◌, None, Some, map, IfOk};
 ghost use Rattle.mt_query_laws.specs.Exprs as exprs;
 ghost use Rattle.mt_cql.specs.Seen.{token_seen};
-ghost use Rattle.mt_cql.specs.Shape.{part_seen, filters_seen};
+ghost use Rattle.mt_cql.specs.Read.{part_seen, filters_seen};
 ghost use Rattle.mt_cql.specs.StateSeen.{ways, maybe_part_seen, maybe_op_seen, whole_op_seen, group_seen, head_seen, around_of, place_of, asked_of, asked_now, next};
 
 use super::conds::no_conds;

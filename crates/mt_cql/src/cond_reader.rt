@@ -4,7 +4,7 @@ ghost use Rattle.std.specs.Prelude.{◌≡◌, Some, IfOk};
 ghost use Rattle.mt_text_spec.specs.Registries.{ValidRegistry};
 ghost use Rattle.mt_query_laws.specs.Exprs as exprs;
 ghost use Rattle.mt_cql.specs.Seen.{token_seen};
-ghost use Rattle.mt_cql.specs.Shape.{conds_seen};
+ghost use Rattle.mt_cql.specs.Read.{conds_seen};
 ghost use Rattle.mt_cql.specs.StateSeen.{ways, asked_of, side_seen, side_state_seen, condition_seen, maybe_condition_seen, cond_tree_seen, next};
 
 use super::conds::{Written, one_more};

@@ -4,7 +4,7 @@ ghost use Rattle.std.specs.Prelude.{◌≡◌, ◌+◌, ◌≤◌, [], None, len
 ghost use Rattle.mt_text_spec.specs.Registries.{ValidRegistry, attr_names};
 ghost use Rattle.mt_query_spec.specs.Meaning as meaning;
 ghost use Rattle.mt_query_laws.specs.Parts as spec;
-ghost use Rattle.mt_cql.specs.Shape.{cond_seen, part_seen, conds_seen};
+ghost use Rattle.mt_cql.specs.Read.{part_seen, conds_seen};
 ghost use Rattle.mt_cql.specs.StateSeen.{cond_tree_seen};
 
 use super::names::{find_attr, or_first, undeclared};
@@ -25,7 +25,7 @@ pub struct Written<'a> {
 /// The condition under a registry.
 fn cond_of(registry: &Registry, written: &Written<'_>) -> Cond
     requires { ValidRegistry registry.now }
-    ensures { cond_seen result ≡ meaning.cond_of registry.now (cond_tree_seen written.now) }
+    ensures { result ≡ meaning.cond_of registry.now (cond_tree_seen written.now) }
 {
     Cond {
         left: kept_label(written.left.number),

@@ -1,7 +1,7 @@
 //! Copies of queries.
 
-ghost use Rattle.std.specs.Prelude.{◌≡◌, map, IfOk};
-ghost use Rattle.mt_cql.specs.Shape.{test_shape, shape, filters_shape, cond_seen, query_seen};
+ghost use Rattle.std.specs.Prelude.{◌≡◌, IfOk};
+ghost use Rattle.mt_cql.specs.Shape.{test_shape, shape, filters_shape};
 
 use super::query::{Cond, Expr, Filter, Filters, Query, Test};
 use mt_base::{List, NoMemory};
@@ -95,39 +95,23 @@ fn copied_filters(alloc: Global, filters: &Filters) -> Result<Filters, NoMemory>
     }
 }
 
-/// A copy of a condition.
-fn copied_cond(cond: &Cond) -> Cond
-    ensures { cond_seen result ≡ cond_seen cond.now }
-{
-    Cond {
-        left: cond.left,
-        left_attr: cond.left_attr,
-        equal: cond.equal,
-        right: cond.right,
-        right_attr: cond.right_attr,
-    }
-}
-
 /// Copies of conditions.
 fn copied_conds(alloc: Global, conds: &[Cond]) -> Result<List<Cond>, NoMemory>
-    ensures { IfOk result (λ copies. map cond_seen copies ≡ map cond_seen conds.now) }
+    ensures { IfOk result (λ copies. copies ≡ conds.now) }
 {
     let mut copies = List::new(alloc);
-    for cond in conds {
-        copies.push(copied_cond(cond))?;
-    }
+    copies.extend(conds)?;
     Ok(copies)
 }
 
 impl Query {
     /// A copy of the query.
     pub fn copied(&self, alloc: Global) -> Result<Query, NoMemory>
-        ensures { IfOk result (λ copy. query_seen copy ≡ query_seen self.now) }
+        ensures { IfOk result (λ copy. copy ≡ self.now) }
     {
-        Ok(Query {
-            head: copied_expr(alloc, &self.head)?,
-            filters: copied_filters(alloc, &self.filters)?,
-            conds: copied_conds(alloc, self.conds.as_slice())?,
-        })
+        let head = copied_expr(alloc, self.head())?;
+        let filters = copied_filters(alloc, self.filters())?;
+        let conds = copied_conds(alloc, self.conds().as_slice())?;
+        Ok(Query::new(head, filters, conds))
     }
 }

@@ -5,7 +5,7 @@ ghost use Rattle.mt_query_spec.specs.Verdicts as verdicts;
 ghost use Rattle.mt_query_laws.specs.Exprs as exprs;
 ghost use Rattle.mt_query_laws.specs.Parts as spec;
 ghost use Rattle.mt_query_laws.specs.Reading.{or_refused};
-ghost use Rattle.mt_cql.specs.Shape.{Said, query_seen, part_seen, filters_seen, conds_seen};
+ghost use Rattle.mt_cql.specs.Read.{Said, part_seen, filters_seen, conds_seen};
 ghost use Rattle.mt_cql.specs.StateSeen.{ways, maybe_part_seen, head_seen, around_of, asked_of, asked_now, place_of, state_seen, fault_seen};
 
 use super::conds::no_conds;
@@ -47,7 +47,7 @@ fn judged(
     is_great: bool,
     query: Query,
 ) -> Result<Query, QueryError>
-    ensures { Said result (verdicts.judged (fault_seen fault) unknown is_great (query_seen query)) }
+    ensures { Said result (verdicts.judged (fault_seen fault) unknown is_great query) }
 {
     let error = match fault {
         Some((at, cause)) => QueryError::Syntax { at, cause },
@@ -72,11 +72,7 @@ fn asks(head: Part, conds: CondsPart) -> Result<Query, QueryError>
     let fault = worst(head.faults.range, least_of(head.faults.label, conds.label));
     let unknown = first_of(head.faults.unknown, conds.unknown);
     let is_great = is_great(sum(head.faults.nodes, conds.nodes), head.faults.size);
-    let query = Query {
-        head: head.expr,
-        filters: Filters::End,
-        conds: conds.conds,
-    };
+    let query = Query::new(head.expr, Filters::End, conds.conds);
     judged(fault, unknown, is_great, query)
 }
 
@@ -103,11 +99,7 @@ fn asks_filtered(
     match chained(alloc, filters.filters) {
         Err(_) => Err(QueryError::NoMemory),
         Ok(filters) => {
-            let query = Query {
-                head: head.expr,
-                filters,
-                conds: conds.conds,
-            };
+            let query = Query::new(head.expr, filters, conds.conds);
             judged(fault, unknown, is_great, query)
         }
     }

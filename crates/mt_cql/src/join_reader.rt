@@ -3,7 +3,7 @@
 ghost use Rattle.std.specs.Prelude.{◌≡◌, [], true, map, IfOk, OnOk};
 ghost use Rattle.mt_query_laws.specs.Exprs as exprs;
 ghost use Rattle.mt_query_laws.specs.Parts as spec;
-ghost use Rattle.mt_cql.specs.Shape.{part_seen, filters_seen, operand_seen};
+ghost use Rattle.mt_cql.specs.Read.{part_seen, filters_seen, operand_seen};
 ghost use Rattle.mt_cql.specs.StateSeen.{ways, opens, maybe_part_seen, maybe_filters_seen, whole_op_seen, maybe_op_seen, head_seen, group_seen, asked_of, filtered_now, asked_now, next};
 
 use super::parts::{FiltersPart, OperandPart, Part};

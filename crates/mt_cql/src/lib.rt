@@ -19,6 +19,7 @@ mod parts;
 mod printer;
 mod query;
 mod reader;
+mod same;
 mod stack;
 mod state;
 mod tag_reader;
@@ -31,3 +32,11 @@ pub use laws::print_then_parse;
 pub use printer::print;
 pub use query::{Cause, Cond, Expr, Filter, FilterKind, Filters, Query, QueryError, Test};
 pub use text_reader::parse;
+
+fn shared<T: Send + Sync>() {}
+
+/// That threads may share queries is proved by this function.
+pub fn are_shared() {
+    shared::<Query>();
+    shared::<QueryError>();
+}

@@ -7,7 +7,8 @@ ghost use Rattle.std.specs.Prelude.{◌≡◌, ◌+◌, map, [], None, IfOk};
 ghost use Rattle.mt_text_spec.specs.Queries.{Any, TokenTest, NoMore};
 ghost use Rattle.mt_query_spec.specs.Meaning as meaning;
 ghost use Rattle.mt_query_laws.specs.Parts as spec;
-ghost use Rattle.mt_cql.specs.Shape.{shape, test_shape, filters_shape, test_part_seen, joined, part_seen, label_seen, filter_seen, operand_seen, filters_seen, op_seen};
+ghost use Rattle.mt_cql.specs.Shape.{shape, test_shape, filters_shape};
+ghost use Rattle.mt_cql.specs.Read.{test_part_seen, joined, part_seen, label_seen, filter_seen, operand_seen, filters_seen, op_seen};
 
 use super::query::{Cond, Expr, Filter, FilterKind, Filters, Test};
 use super::stack::Stack;

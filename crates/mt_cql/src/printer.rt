@@ -6,7 +6,7 @@ ghost use Rattle.mt_text_spec.specs.Registries.{attr_names, kind_names, kind_att
 ghost use Rattle.mt_text_spec.specs.Queries.{TokenTest};
 ghost use Rattle.mt_query_spec.specs.Trees as tree;
 ghost use Rattle.mt_query_spec.specs.Printed as spec;
-ghost use Rattle.mt_cql.specs.Shape.{test_shape, shape, kind_shape, filters_shape, cond_seen, query_seen};
+ghost use Rattle.mt_cql.specs.Shape.{test_shape, shape, kind_shape, filters_shape};
 ghost use Rattle.mt_cql.specs.Texts.{falls, stays};
 ghost use Rattle.mt_cql.specs.Ranks.{names_of, test_rank_seen, rank_seen};
 
@@ -394,7 +394,7 @@ fn add_cond(
     registry: &Registry,
     cond: &Cond,
 ) -> Result<(), NoMemory>
-    ensures { OnOk result (string_bytes out.new ≡ string_bytes out.old ++ spec.printed_cond (attr_names registry.now.attrs) (cond_seen cond.now)) }
+    ensures { OnOk result (string_bytes out.new ≡ string_bytes out.old ++ spec.printed_cond (attr_names registry.now.attrs) cond.now) }
 {
     add(out, " & ")?;
     add_side(alloc, out, registry, cond.left, cond.left_attr)?;
@@ -409,7 +409,7 @@ fn add_conds(
     registry: &Registry,
     conds: &[Cond],
 ) -> Result<(), NoMemory>
-    ensures { OnOk result (string_bytes out.new ≡ string_bytes out.old ++ spec.printed_conds (attr_names registry.now.attrs) (map cond_seen conds.now)) }
+    ensures { OnOk result (string_bytes out.new ≡ string_bytes out.old ++ spec.printed_conds (attr_names registry.now.attrs) conds.now) }
 {
     for cond in conds {
         add_cond(alloc, out, registry, cond)?;
@@ -420,11 +420,11 @@ fn add_conds(
 /// The text that a query is printed as, with the names that the registry declares: one blank where blanks stand, and parentheses only where the query needs
 /// them. A query that was read from a text is read from its printed text again, under any default attribute, where that has at most 4,096 bytes.
 pub fn print(alloc: Global, query: &Query, registry: &Registry) -> Result<Value, NoMemory>
-    ensures { IfOk result (λ text. text ≡ spec.printed registry.now (query_seen query.now)) }
+    ensures { IfOk result (λ text. text ≡ spec.printed registry.now query.now) }
 {
     let mut out = String::new(alloc);
-    add_expr(alloc, &mut out, registry, Rank::Choice, &query.head)?;
-    add_filters(alloc, &mut out, registry, &query.filters)?;
-    add_conds(alloc, &mut out, registry, query.conds.as_slice())?;
+    add_expr(alloc, &mut out, registry, Rank::Choice, query.head())?;
+    add_filters(alloc, &mut out, registry, query.filters())?;
+    add_conds(alloc, &mut out, registry, query.conds().as_slice())?;
     Ok(Value::from_string(out))
 }

@@ -1,6 +1,10 @@
-//! Queries.
+//! Queries. A query and its conditions are seen as the records of `mt_text_spec`; an enum is seen as what `shape` and its kin say that it stands for.
+
+ghost use Rattle.std.specs.Prelude.{◌≡◌};
+ghost use Rattle.mt_cql.specs.Shape.{shape, filters_shape};
 
 use mt_base::{List, NoMemory, Value};
+use std::marker::Model;
 
 /// A test of a token, or of an instance of a structure, whose attributes `attr` then numbers.
 #[derive(Drop)]
@@ -77,7 +81,7 @@ pub enum Filters {
 }
 
 /// A condition on the values at two labels: that they are equal, or that they differ.
-#[derive(Drop)]
+#[derive(Clone, Copy, Drop)]
 pub struct Cond {
     pub left: u8,
     pub left_attr: u16,
@@ -86,12 +90,68 @@ pub struct Cond {
     pub right_attr: u16,
 }
 
+impl Model for Cond {
+    ghost use Rattle.mt_text_spec.specs.Queries as spec;
+
+    ghost Value = { spec.Cond };
+
+    ghost view = { λ c. record { left = c.left; left_attr = c.left_attr; equal = c.equal; right = c.right; right_attr = c.right_attr } };
+
+    ghost inverse = { λ c. record { left = c.left; left_attr = c.left_attr; equal = c.equal; right = c.right; right_attr = c.right_attr } };
+}
+
 /// A query: a head, filters on its matches and conditions on its labels.
 #[derive(Drop)]
 pub struct Query {
-    pub head: Expr,
-    pub filters: Filters,
-    pub conds: List<Cond>,
+    head: Expr,
+    filters: Filters,
+    conds: List<Cond>,
+}
+
+impl Model for Query {
+    ghost use Rattle.mt_text_spec.specs.Queries as spec;
+    ghost use Rattle.mt_cql.specs.Codes.{query_code};
+    ghost use Rattle.mt_cql.specs.Shape.{shape, filters_shape};
+
+    ghost Value = { spec.Query };
+
+    ghost coded = { query_code };
+
+    ghost view = { λ query. record { head = shape query.head; filters = filters_shape query.filters; conds = query.conds } };
+}
+
+impl Query {
+    /// The query of these parts. It takes no memory.
+    pub fn new(head: Expr, filters: Filters, conds: List<Cond>) -> Self
+        ensures { result ≡ record { head = shape head; filters = filters_shape filters; conds = conds } }
+    {
+        Query {
+            head,
+            filters,
+            conds,
+        }
+    }
+
+    /// What its matches match.
+    pub fn head(&self) -> &Expr
+        ensures { shape result.now ≡ self.now.head }
+    {
+        &self.head
+    }
+
+    /// The filters on the matches of its head.
+    pub fn filters(&self) -> &Filters
+        ensures { filters_shape result.now ≡ self.now.filters }
+    {
+        &self.filters
+    }
+
+    /// The conditions on the labels of its head.
+    pub fn conds(&self) -> &List<Cond>
+        ensures { result.now ≡ self.now.conds }
+    {
+        &self.conds
+    }
 }
 
 /// Why a place is at fault.

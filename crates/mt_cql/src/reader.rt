@@ -5,7 +5,7 @@ ghost use Rattle.mt_text_spec.specs.Registries.{ValidRegistry};
 ghost use Rattle.mt_query_laws.specs.Machine as machine;
 ghost use Rattle.mt_query_laws.specs.Exprs as exprs;
 ghost use Rattle.mt_cql.specs.Seen.{token_seen};
-ghost use Rattle.mt_cql.specs.Shape.{part_seen, label_seen};
+ghost use Rattle.mt_cql.specs.Read.{part_seen, label_seen};
 ghost use Rattle.mt_cql.specs.TestSeen.{tests_seen, next_test};
 ghost use Rattle.mt_cql.specs.StateSeen.{ways, maybe_part_seen, place_of, next};
 

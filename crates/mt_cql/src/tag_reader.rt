@@ -6,7 +6,7 @@ ghost use Rattle.mt_query_laws.specs.Machine as machine;
 ghost use Rattle.mt_query_laws.specs.Exprs as exprs;
 ghost use Rattle.mt_query_laws.specs.Parts as spec;
 ghost use Rattle.mt_cql.specs.Seen.{token_seen};
-ghost use Rattle.mt_cql.specs.Shape.{test_part_seen, part_seen};
+ghost use Rattle.mt_cql.specs.Read.{test_part_seen, part_seen};
 ghost use Rattle.mt_cql.specs.TestSeen.{tests_seen, maybe_test_part_seen};
 ghost use Rattle.mt_cql.specs.StateSeen.{ways, place_of, counting_seen, next};
 

@@ -7,7 +7,8 @@ ghost use Rattle.mt_query_laws.specs.Machine as machine;
 ghost use Rattle.mt_query_laws.specs.Parts as spec;
 ghost use Rattle.mt_cql.specs.Named.{names_in};
 ghost use Rattle.mt_cql.specs.Seen.{token_seen, sign_seen};
-ghost use Rattle.mt_cql.specs.Shape.{test_shape, test_part_seen};
+ghost use Rattle.mt_cql.specs.Shape.{test_shape};
+ghost use Rattle.mt_cql.specs.Read.{test_part_seen};
 ghost use Rattle.mt_cql.specs.TestSeen.{ways_of, comparison_seen, maybe_comparison_seen, maybe_test_part_seen, level_seen, tests_seen, next_test};
 
 use super::names::{find, or_first, undeclared};

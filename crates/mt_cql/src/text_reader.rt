@@ -8,7 +8,7 @@ ghost use Rattle.mt_query_spec.specs.Valid.{ValidQuery};
 ghost use Rattle.mt_query_laws.specs.Exprs as exprs;
 ghost use Rattle.mt_query_laws.specs.Reading.{read};
 ghost use Rattle.mt_cql.specs.Answered.{Answered};
-ghost use Rattle.mt_cql.specs.Shape.{Said, query_seen};
+ghost use Rattle.mt_cql.specs.Read.{Said};
 ghost use Rattle.mt_cql.specs.StateSeen.{ways, state_seen};
 ghost use Rattle.mt_cql.specs.Seen.{unlexed_seen};
 ghost use Rattle.mt_cql.specs.TextSeen.{NextSeen, IsBehind, nesting_seen};
@@ -227,7 +227,7 @@ pub fn parse(
 ) -> Result<Query, QueryError>
     requires { ValidRegistry registry.now }
     ensures means { Answered registry.now default text.now result }
-    ensures valid { default < length registry.now.attrs → IfOk result (λ query. ValidQuery registry.now (query_seen query)) }
+    ensures valid { default < length registry.now.attrs → IfOk result (λ query. ValidQuery registry.now query) }
 {
     if is_too_long(text) {
         return Err(QueryError::TooLarge);

@@ -1,7 +1,8 @@
 use Rattle.std.proofs.Common.{sym, ◌∙◌, ap}
 use Rattle.std.specs.Prelude.{reverse}
 use Rattle.mt_text_spec.specs.Queries as q
-use Rattle.mt_cql.specs.Shape.{filter_seen, filters_shape}
+use Rattle.mt_cql.specs.Shape.{filters_shape}
+use Rattle.mt_cql.specs.Read.{filter_seen}
 use Rattle.mt_cql.proofs.Chains.{back_all, chained_back}
 use Rattle.mt_cql.proofs.parts.chained.Goals as goal
 

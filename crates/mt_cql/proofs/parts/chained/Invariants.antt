@@ -1,6 +1,7 @@
 use Rattle.std.proofs.Common.{◌≡◌, length, map}
 use Rattle.mt_query_spec.specs.Meaning as meaning
-use Rattle.mt_cql.specs.Shape.{filter_seen, filters_shape}
+use Rattle.mt_cql.specs.Shape.{filters_shape}
+use Rattle.mt_cql.specs.Read.{filter_seen}
 use Rattle.mt_cql.proofs.Chains.{chained_back}
 use Rattle.mt_cql.proofs.parts.chained.Given as goal
 

@@ -1,7 +1,7 @@
 use Rattle.std.proofs.Common.{◌≡◌}
 use Rattle.mt_query_laws.specs.Machine.{nots_of}
 use Rattle.mt_query_laws.specs.Parts.{not_part}
-use Rattle.mt_cql.specs.Shape.{test_part_seen}
+use Rattle.mt_cql.specs.Read.{test_part_seen}
 use Rattle.mt_cql.proofs.tests.negated.Given as goal
 
 abbrev pub invariant-loop-nots : goal.invariant-loop-nots

@@ -1,7 +1,7 @@
 use Rattle.std.proofs.Common.{arith, sym, ◌∙◌, ap, subst, Err, length}
 use Rattle.mt_query_spec.specs.Tokens.{tokens_of, tokens_from}
 use Rattle.mt_query_laws.specs.Reading.{read}
-use Rattle.mt_cql.specs.Shape.{Said}
+use Rattle.mt_cql.specs.Read.{Said}
 use Rattle.mt_cql.specs.Seen.{token_seen, unlexed_seen}
 use Rattle.mt_cql.specs.StateSeen.{state_seen, next}
 use Rattle.mt_cql.proofs.TextLaws.{begins, ended, stopped, stuck_at, stepped}
