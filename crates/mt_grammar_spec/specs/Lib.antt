@@ -1,0 +1,3 @@
+pub mod GrammarLines
+pub mod GrammarFile
+pub mod ReadGrammar
