@@ -1,0 +1,16 @@
+//! Texts that are made from a number, and the script of a demo over them.
+//!
+//! A generated text is given in two forms: `generated` writes its vertical, which is read under whatever registry holds, and `generated_text` makes the text
+//! that it is under the standard registry.
+#![tactic(auto)]
+
+mod script;
+mod source;
+#[cfg(test)]
+mod tests;
+mod text;
+mod vertical;
+
+pub use script::demo;
+pub use text::generated_text;
+pub use vertical::generated;

@@ -1,0 +1,89 @@
+//! Where the tokens of a generated text come from.
+
+ghost use Rattle.std.specs.Prelude.{◌≡◌, ◌+◌, ◌<◌, ◌^◌};
+ghost use Rattle.mt_generate_spec.specs.Draws.{drawn, upper_bits};
+ghost use Rattle.mt_generate_spec.specs.Generated.{token_at, token_of, rank_of};
+ghost use Rattle.mt_generate.specs.Sources as spec;
+
+use std::marker::Model;
+
+/// A token that was drawn: the rank of its lemma, and whether its word is in the plural.
+#[derive(Clone, Copy, Debug, Drop)]
+pub struct Drawn {
+    pub rank: u32,
+    pub plural: bool,
+}
+
+/// The tokens of a seed, from a place on.
+#[derive(Debug, Drop)]
+pub struct Source {
+    seed: u64,
+    place: u64,
+    number: u64,
+}
+
+impl Model for Source {
+    ghost use Rattle.std.specs.Prelude.{◌≡◌, ◌*◌};
+    ghost use Rattle.mt_generate_spec.specs.Draws.{behind_draws};
+    ghost use Rattle.mt_generate.specs.Sources as spec;
+
+    ghost Value = { spec.Source };
+
+    ghost view = { λ s. record { seed = s.seed; place = s.place } };
+
+    ghost invariant = { λ s. s.number ≡ behind_draws s.seed (3 * s.place) };
+}
+
+impl Source {
+    /// All tokens of this seed.
+    pub fn new(seed: u64) -> Self
+        ensures { result ≡ record { seed = seed; place = 0 } }
+    {
+        Source {
+            seed,
+            place: 0,
+            number: seed,
+        }
+    }
+
+    /// The next token.
+    pub fn draw(&mut self) -> Drawn
+        requires { self.old.place < 2 ^ 32 }
+        ensures next { self.new ≡ record { seed = self.old.seed; place = self.old.place + 1 } }
+        ensures token { token_of result.rank result.plural ≡ token_at self.old.seed self.old.place }
+        ensures low { result.rank < 1000 }
+    {
+        let first = behind_draw(self.number);
+        let second = behind_draw(first);
+        let third = behind_draw(second);
+        self.number = third;
+        self.place += 1;
+        Drawn {
+            rank: rank(upper_bits(first), upper_bits(second)),
+            plural: upper_bits(third) % 2 == 1,
+        }
+    }
+}
+
+/// The generator's number behind one more draw.
+fn behind_draw(number: u64) -> u64
+    ensures { result ≡ drawn number }
+{
+    let product = u128::from(number) * 6_364_136_223_846_793_005;
+    ((product + 1_442_695_040_888_963_407) % (1 << 64)) as u64
+}
+
+/// What is drawn where the generator has this number.
+fn upper_bits(number: u64) -> u32
+    ensures { result ≡ upper_bits number }
+{
+    (number >> 33) as u32
+}
+
+/// The rank of a lemma by two draws.
+fn rank(first: u32, second: u32) -> u32
+    ensures rank { result ≡ rank_of first second }
+    ensures low { result < 1000 }
+{
+    first % 1000 * (second % 1000) / 1000
+}

@@ -1,0 +1,4 @@
+//! Laws of generated texts. Each is the contract of a function that does nothing.
+#![tactic(auto)]
+
+pub mod laws;

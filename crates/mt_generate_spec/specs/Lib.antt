@@ -1,0 +1,4 @@
+pub mod Demo
+pub mod Draws
+pub mod Generated
+pub mod Verticals
