@@ -1,0 +1,9 @@
+pub mod Bare
+pub mod Images
+pub mod Turned
+pub mod Followed
+pub mod Somehow
+pub mod Spots
+pub mod Unions
+pub mod Grouped
+pub mod Led

@@ -1,0 +1,4 @@
+pub mod Parts
+pub mod Ways
+pub mod LabelledParts
+pub mod Groups

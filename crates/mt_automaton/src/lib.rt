@@ -1,0 +1,34 @@
+//! Parts of queries, matched in a text by sets of places.
+//!
+//! A part without labels is a map between sets of places: `ends` leads from begins on to the ends of its matches, `starts` from ends back to their begins. What a
+//! part matches is what the expression that it stands for matches (`PartMatches`). The text is asked through a `View`, 64 places at once.
+//!
+//! A part with labels (`Labelled`) leads from a set of begins to the ends that are allowed with the places of its labels (`labelled_rows`), in groups that share their
+//! labels. What the first of two parts may end at is where the second begins (`labelled_starts`), so nothing is followed from which no match comes.
+#![tactic(auto)]
+
+mod groups;
+mod labelled;
+mod part;
+mod pool;
+mod reach;
+#[cfg(test)]
+mod tests;
+mod view;
+
+pub use groups::{Group, UNSET, labelled_rows};
+pub use labelled::{Labelled, labelled_starts};
+pub use part::Part;
+pub use pool::Pool;
+pub use reach::{ends, starts};
+pub use view::{Mark, View};
+
+fn shared<T: Send + Sync>() {}
+
+/// That threads may share parts and pools is proved by this function.
+pub fn are_shared() {
+    shared::<Part>();
+    shared::<Labelled>();
+    shared::<Pool>();
+    shared::<Mark>();
+}

@@ -1,0 +1,60 @@
+//! What is asked of a text.
+
+ghost use Rattle.std.specs.Prelude.{◌≡◌, ℕ, ◌<◌, Some, IfSome};
+ghost use Rattle.mt_places.specs.Places.{WordIs};
+ghost use Rattle.mt_automaton.specs.Parts.{Seen, Stands, Longer, HasAllInside};
+
+use mt_places::Marks;
+
+/// What stands at a place: a token that passes a test; a begin of an instance of a tag, an end of one of the tag's kind, an empty instance of the tag.
+#[derive(Clone, Copy, Debug, Drop)]
+pub enum Mark {
+    Holds(u32),
+    Begins(u32),
+    Ends(u32),
+    Empty(u32),
+}
+
+/// From begins on to ends, or from ends back to begins.
+#[derive(Clone, Copy, Debug, Drop)]
+pub(crate) enum Way {
+    On,
+    Back,
+}
+
+/// A text, as it is seen for the tests and tags of some expression.
+pub trait View {
+    ghost seen: { Self → Seen };
+
+    /// How many tokens it has.
+    fn tokens(&self) -> u32
+        ensures is { result ≡ (seen self.now).text.tokens }
+        ensures few { result < 4294967295 }
+        ensures inside { HasAllInside (seen self.now).text };
+
+    /// At which of the 64 places from 64 * at on a mark stands, the lowest bit first.
+    fn word(&self, mark: Mark, at: usize) -> u64
+        ensures { WordIs (Stands (seen self.now) mark) at result };
+
+    /// Where the instance of a tag ends that begins at a place and has a token; no two of these begin at one place.
+    fn whole_end(&self, tag: u32, at: u32) -> Option<u32>
+        ensures some { IfSome result (λ end. Longer (seen self.now) tag at end) }
+        ensures only { (end : ℕ) → Longer (seen self.now) tag at end → result ≡ Some end };
+}
+
+/// Where a mark stands in a text.
+#[derive(Clone, Copy, Drop)]
+pub(crate) struct Standing<'a, V: View> {
+    pub view: &'a V,
+    pub mark: Mark,
+}
+
+impl<'a, V: View> Marks for Standing<'a, V> {
+    ghost use Rattle.mt_automaton.specs.Parts.{Stands};
+
+    ghost stands = { λ s. Stands (V.seen s.view.now) s.mark };
+
+    fn word(&self, at: usize) -> u64 {
+        self.view.word(self.mark, at)
+    }
+}
