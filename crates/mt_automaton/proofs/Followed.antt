@@ -2,7 +2,7 @@
 use Rattle.std.proofs.Common.{◌≡◌, ℕ, ◌+◌, ◌*◌, ◌<◌, ◌≤◌, ◌⊎◌, Option, None, Some, List, length, refl, sym, ◌∙◌, ap, subst, inl, inr, arith}
 use Rattle.std.proofs.lemmas.Bool.{cases_eq, cases_lt}
 use Rattle.mt_places.specs.Places.{In, HasJust}
-use Rattle.mt_places.proofs.Bits.{in_room}
+use Rattle.mt_automaton.proofs.Bits.{in_room}
 use Rattle.mt_automaton.specs.declared.part.Part.TheVariants.{Whole}
 use Rattle.mt_automaton.specs.declared.view.Mark.TheVariants.{Begins, Empty}
 use Rattle.mt_automaton.specs.declared.view.Way.{Way}

@@ -4,7 +4,7 @@ use Rattle.std.proofs.lemmas.Bool.{cases_eq, cases_lt}
 use Rattle.std.proofs.lemmas.List.{length_push, get_or_append_left}
 use Rattle.std.proofs.Math.Seq.{get_or-append_seam}
 use Rattle.mt_places.specs.Places.{In, HasJust}
-use Rattle.mt_places.proofs.Bits.{in_room}
+use Rattle.mt_automaton.proofs.Bits.{in_room}
 use Rattle.mt_automaton.specs.declared.groups.Group.{Group}
 use Rattle.mt_automaton.specs.Groups.{none, group, Fine, AddsRows}
 

@@ -2,7 +2,7 @@
 use Rattle.std.proofs.Common.{◌≡◌, ℕ, ◌+◌, ◌<◌, ◌⊎◌, List, length, refl, sym, ◌∙◌, subst, inl, inr, arith}
 use Rattle.std.specs.Prelude.{Result, Ok, Err, IfOk}
 use Rattle.mt_places.specs.Places.{In, IsAbove, HasJust}
-use Rattle.mt_places.proofs.Bits.{in_room}
+use Rattle.mt_automaton.proofs.Bits.{in_room}
 use Rattle.mt_match_spec.specs.Matches as m
 use Rattle.mt_automaton.specs.declared.part.Part.TheVariants.{Token, Begin, End}
 use Rattle.mt_automaton.specs.declared.view.Mark.TheVariants.{Holds, Begins, Ends}

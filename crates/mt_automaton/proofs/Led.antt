@@ -4,7 +4,7 @@ use Rattle.std.proofs.lemmas.Bool.{cases_eq, cases_lt}
 use Rattle.mt_match_spec.specs.Matches as m
 use Rattle.mt_match_spec.specs.Labels.{no_labels, labelled, united}
 use Rattle.mt_places.specs.Places.{In, HasJust}
-use Rattle.mt_places.proofs.Bits.{in_room}
+use Rattle.mt_automaton.proofs.Bits.{in_room}
 use Rattle.mt_automaton.specs.declared.part.Part.{Part}
 use Rattle.mt_automaton.specs.declared.labelled.Labelled.{Labelled}
 use Rattle.mt_automaton.specs.declared.labelled.Labelled.TheVariants.{Plain, Token}

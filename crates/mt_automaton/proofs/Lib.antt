@@ -1,3 +1,4 @@
+pub mod Bits
 pub mod Bare
 pub mod Images
 pub mod Turned

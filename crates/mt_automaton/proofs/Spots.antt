@@ -3,7 +3,7 @@ use Rattle.std.proofs.Common.{◌≡◌, ℕ, ◌+◌, ◌<◌, ◌^◌, inl, in
 use Rattle.std.specs.Int.{bit_not}
 use Rattle.std.proofs.lemmas.Bool.{cases_lt}
 use Rattle.mt_places.specs.Places.{WordIs}
-use Rattle.mt_places.proofs.Bits.{without_word}
+use Rattle.mt_automaton.proofs.Bits.{without_word}
 
 same_word : (P Q : ℕ → Type 0) (at word : ℕ) → WordIs P at word → ((k : ℕ) → P k → Q k) → ((k : ℕ) → Q k → P k) → WordIs Q at word
 same_word P Q at word w there back = record { sound = λ j h one. there _ (w.sound j h one); complete = λ j h q. w.complete j h (back _ q) }

@@ -3,7 +3,7 @@ use Rattle.std.proofs.Common.{◌≡◌, ℕ, zero, suc, ◌+◌, ◌<◌, ◌�
 use Rattle.std.proofs.lemmas.Bool.{cases_lt}
 use Rattle.mt_match_spec.specs.Matches as m
 use Rattle.mt_places.specs.Places.{In, HasJust}
-use Rattle.mt_places.proofs.Bits.{in_room}
+use Rattle.mt_automaton.proofs.Bits.{in_room}
 use Rattle.mt_automaton.specs.declared.view.Way.{Way}
 use Rattle.mt_automaton.specs.declared.view.Way.TheVariants.{On, Back}
 use Rattle.mt_automaton.specs.Ways.{Image, Along}

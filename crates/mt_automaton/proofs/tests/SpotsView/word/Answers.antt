@@ -1,6 +1,6 @@
 use Rattle.std.proofs.Common.{ℕ, ◌<◌}
 use Rattle.mt_places.specs.Places.{In}
-use Rattle.mt_places.proofs.Bits.{both_word}
+use Rattle.mt_automaton.proofs.Bits.{both_word}
 use Rattle.mt_automaton.proofs.tests.SpotsView.word.Goals as goal
 
 pub returns-in-Holds : goal.returns-in-Holds
