@@ -9,7 +9,7 @@ use Rattle.std.proofs.lemmas.Cmp.{tied_itself}
 use Rattle.mt_text_spec.specs.Orders.{span_cmp_total, row_cmp_total}
 use Rattle.mt_match_spec.specs.Rows.{ListsAll}
 use Rattle.mt_match_laws.proofs.Members.{Member, to_member, from_member, each_member}
-use Rattle.mt_match_laws.specs.Laws.{RowsAreOne, KeptAreOne, SpansAreOne}
+use Rattle.mt_match_laws.specs.Laws.{ListsAreOne, RowsAreOne, KeptAreOne, SpansAreOne}
 
 module _ {X : Type 0} {order : X → X → Ordering} (o : IsTotalOrder order) where
   -- nothing comes before itself
@@ -42,6 +42,10 @@ module _ {X : Type 0} {order : X → X → Ordering} (o : IsTotalOrder order) wh
   pub one : (P : X → Type 0) (xs ys : List X) → ListsAll order P xs → ListsAll order P ys → xs ≡ ys
   one P xs ys a b =
       one_list xs ys a.ascending b.ascending (λ z m. to_member ys z (b.each z (a.only z (from_member xs z m)))) (λ z m. to_member xs z (a.each z (b.only z (from_member ys z m))))
+
+pub lists_one : ListsAreOne
+lists_one rows others up too in_others in_rows =
+    one_list row_cmp_total rows others up too (λ z m. to_member others z (in_others z (from_member rows z m))) (λ z m. to_member rows z (in_rows z (from_member others z m)))
 
 pub rows_one : RowsAreOne
 rows_one images registry corpus expr rows others a b = one row_cmp_total _ rows others a b

@@ -1,9 +1,12 @@
 -- Laws of rows and spans.
 use Rattle.std.specs.Prelude.{◌≡◌, List}
+use Rattle.std.specs.List.{Contains}
+use Rattle.std.specs.List.Sorted.{IsStrictlySortedBy}
 use Rattle.mt_text_spec.specs.Registries.{Registry}
 use Rattle.mt_text_spec.specs.Texts.{Text, Span, Row}
 use Rattle.mt_text_spec.specs.Queries.{Expr, Query}
 use Rattle.mt_match_spec.specs.Values.{Images}
+use Rattle.mt_text_spec.specs.Orders.{row_cmp}
 use Rattle.mt_match_spec.specs.Rows.{Rows}
 use Rattle.mt_match_spec.specs.Kept.{Kept, Spans}
 
@@ -17,6 +20,11 @@ HaveKept = (images : Images) (registry : Registry) (corpus : List Text) (query :
 
 abbrev pub HaveSpans : Type 0
 HaveSpans = (images : Images) (registry : Registry) (corpus : List Text) (query : Query) → (spans : List Span) × Spans images registry corpus query spans
+
+-- two ascending lists of the same rows are one
+abbrev pub ListsAreOne : Type 0
+ListsAreOne = (rows others : List Row) → IsStrictlySortedBy row_cmp rows → IsStrictlySortedBy row_cmp others →
+    ((row : Row) → Contains rows row → Contains others row) → ((row : Row) → Contains others row → Contains rows row) → rows ≡ others
 
 -- each of them is one only
 abbrev pub RowsAreOne : Type 0

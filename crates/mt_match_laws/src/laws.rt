@@ -1,6 +1,6 @@
 //! There is a list of the rows of each expression over any texts, of what each query keeps and of its spans, and one only.
 
-ghost use Rattle.mt_match_laws.specs.Laws.{HaveKept, HaveRows, HaveSpans, KeptAreOne, RowsAreOne, SpansAreOne};
+ghost use Rattle.mt_match_laws.specs.Laws.{HaveKept, HaveRows, HaveSpans, KeptAreOne, ListsAreOne, RowsAreOne, SpansAreOne};
 
 /// There is a list of all rows of an expression.
 pub fn have_rows()
@@ -15,6 +15,11 @@ pub fn have_kept()
 /// There is a list of all spans of a query.
 pub fn have_spans()
     ensures { HaveSpans }
+{}
+
+/// Two ascending lists of the same rows are equal.
+pub fn lists_are_one()
+    ensures { ListsAreOne }
 {}
 
 /// Two lists of the rows of an expression are equal.

@@ -3,4 +3,6 @@
 
 mod laws;
 
-pub use laws::{have_kept, have_rows, have_spans, kept_are_one, rows_are_one, spans_are_one};
+pub use laws::{
+    have_kept, have_rows, have_spans, kept_are_one, lists_are_one, rows_are_one, spans_are_one,
+};

@@ -1,0 +1,9 @@
+pub mod Members
+pub mod Tests
+pub mod Labels
+pub mod Sights
+pub mod Telling
+pub mod Rows
+pub mod Kept
+pub mod Listed
+pub mod NoMore
