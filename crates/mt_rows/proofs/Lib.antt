@@ -1,0 +1,5 @@
+pub mod Joined
+pub mod Keeping
+pub mod SpansOf
+pub mod Sweeps
+pub mod Marking

@@ -1,0 +1,5 @@
+pub mod Rows
+pub mod Appends
+pub mod Marks
+pub mod Laws
+pub mod Filters

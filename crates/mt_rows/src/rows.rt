@@ -1,0 +1,150 @@
+//! Rows in any order.
+
+ghost use Rattle.std.specs.Prelude.{◌≡◌, ◌-◌, ◌<◌, ◌≤◌, [], ◌∷◌, ◌++◌, false, length, map, take, replicate, nat_eq, slice_get, Some, IfOk, OnOk, OnErr, IsSomeAnd};
+ghost use Rattle.mt_match_spec.specs.Labels.{no_labels};
+ghost use Rattle.mt_rows.specs.Marks.{kept};
+
+use crate::marks::keep_marked;
+use mt_base::{NoMemory, Row, Span};
+use std::alloc::Global;
+use std::marker::Model;
+
+/// Rows one after another, in any order. A row takes 12 bytes while no label is set, and 48 from the first labelled row on.
+#[derive(Debug, Drop)]
+pub struct Rows {
+    spans: Vec<Span>,
+    labels: Vec<[u32; 9]>,
+}
+
+impl Model for Rows {
+    ghost use Rattle.std.specs.Prelude.{List, ◌≤◌, length};
+    ghost use Rattle.mt_text_spec.specs.Texts as spec;
+    ghost use Rattle.mt_rows.specs.Rows.{joined};
+
+    ghost Value = { List spec.Row };
+
+    ghost view = { λ r. joined r.spans.items r.labels.items };
+
+    ghost invariant = { λ r. length r.labels.items ≤ length r.spans.items };
+}
+
+impl Rows {
+    /// No rows. It takes no memory until a row is pushed.
+    pub fn new(alloc: Global) -> Self
+        ensures { result ≡ [] }
+    {
+        Rows {
+            spans: Vec::new(alloc),
+            labels: Vec::new(alloc),
+        }
+    }
+
+    /// How many rows there are.
+    pub fn len(&self) -> usize
+        ensures { result ≡ length self.now }
+    {
+        self.spans.len()
+    }
+
+    /// Whether there is none.
+    pub fn is_empty(&self) -> bool
+        ensures { result ≡ nat_eq (length self.now) 0 }
+    {
+        self.len() == 0
+    }
+
+    /// The row at a place, counted from 0.
+    pub fn get(&self, i: usize) -> Row
+        requires { i < length self.now }
+        ensures { slice_get self.now i ≡ Some result }
+    {
+        let span = self.spans[i];
+        match self.labels.get(i) {
+            Some(labels) => Row::new(span, *labels),
+            None => Row::unlabelled(span),
+        }
+    }
+
+    /// The span of the row at a place, counted from 0.
+    pub fn span(&self, i: usize) -> Span
+        requires { i < length self.now }
+        ensures { IsSomeAnd (slice_get self.now i) (λ row. result ≡ row.span) }
+    {
+        self.spans[i]
+    }
+
+    /// The span of each row, in order.
+    pub fn as_spans(&self) -> &[Span]
+        ensures { result.now ≡ map (λ row. row.span) self.now }
+    {
+        self.spans.as_slice()
+    }
+
+    /// Adds a row at the end. Without memory nothing changes.
+    pub fn push(&mut self, row: Row) -> Result<(), NoMemory>
+        ensures ok { OnOk result (self.new ≡ self.old ++ row ∷ []) }
+        ensures err { OnErr result (self.new ≡ self.old) }
+    {
+        let at = self.spans.len();
+        self.spans.push(row.span())?;
+        if !is_labelled(&row) {
+            return Ok(());
+        }
+        match put_labels(&mut self.labels, at, *row.labels()) {
+            Ok(()) => Ok(()),
+            Err(NoMemory) => {
+                self.spans.truncate(at);
+                Err(NoMemory)
+            }
+        }
+    }
+
+    /// Keeps the first `n` rows, or all where there are fewer.
+    pub fn truncate(&mut self, n: usize)
+        ensures { self.new ≡ take n self.old }
+    {
+        self.spans.truncate(n);
+        self.labels.truncate(n);
+    }
+
+    /// Keeps the rows whose mark is true, in order. It takes no memory.
+    pub fn keep(&mut self, marks: &[bool])
+        requires { length marks.now ≡ length self.old }
+        ensures { self.new ≡ kept marks.now self.old }
+    {
+        keep_marked(&mut self.spans, marks);
+        keep_marked(&mut self.labels, marks);
+    }
+
+    /// Takes all rows away, and keeps the memory for others.
+    pub fn clear(&mut self)
+        ensures { self.new ≡ [] }
+    {
+        self.spans.clear();
+        self.labels.clear();
+    }
+}
+
+/// Whether some label is set.
+fn is_labelled(row: &Row) -> bool
+    ensures { result ≡ false → row.now.labels ≡ no_labels }
+{
+    *row.labels() != [Row::UNSET; 9]
+}
+
+/// Puts labels at a place behind the others. At the places before it where there are none, no label is set.
+fn put_labels(labels: &mut Vec<[u32; 9]>, at: usize, set: [u32; 9]) -> Result<(), NoMemory>
+    requires { length labels.old.items ≤ at }
+    ensures ok { OnOk result (labels.new.items ≡ (labels.old.items ++ replicate (at - length labels.old.items) no_labels) ++ set ∷ []) }
+    ensures err { OnErr result (labels.new.items ≡ labels.old.items) }
+{
+    let before = labels.len();
+    labels.resize(at, [Row::UNSET; 9])?;
+    match labels.push(set) {
+        Ok(()) => Ok(()),
+        Err(_) => {
+            labels.truncate(before);
+            Err(NoMemory)
+        }
+    }
+}
