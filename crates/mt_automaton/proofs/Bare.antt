@@ -1,9 +1,10 @@
 -- Matches of parts without labels have none.
 use Rattle.std.proofs.Common.{◌≡◌, ℕ, zero, suc, List, refl, sym, ◌∙◌, ap, subst, inl, inr}
+use Rattle.mt_text_spec.specs.Queries.{Any}
 use Rattle.mt_match_spec.specs.Matches as m
 use Rattle.mt_match_spec.specs.Labels.{no_labels, united}
 use Rattle.mt_automaton.specs.declared.part.Part.{Part}
-use Rattle.mt_automaton.specs.declared.part.Part.TheVariants.{Token, Begin, End, Whole, Seq', Choice', Repeat'}
+use Rattle.mt_automaton.specs.declared.part.Part.TheVariants.{Token, Begin, End, Whole, Seq', Choice', Repeat', Gap}
 use Rattle.mt_automaton.specs.Parts.{Seen, meant}
 
 -- what a relation matches has no labels
@@ -35,6 +36,7 @@ bare_part v (Whole tag) b f l h = h.labels_are
 bare_part v (Seq' p left r right) b f l h = bare_joined (m.Matches v.text (meant v left)) (m.Matches v.text (meant v right)) (bare_part v left) (bare_part v right) b f l h
 bare_part v (Choice' p left r right) b f l h = elim h [ inl x ↦ bare_part v left b f l x | inr y ↦ bare_part v right b f l y ]
 bare_part v (Repeat' p inner least most) b f l h = bare_turns (m.Matches v.text (meant v inner)) h.count (bare_part v inner) b f l h.turns
+bare_part v (Gap least most) b f l h = bare_turns (m.IsToken v.text 0 Any) h.count (λ x y k t. t.labels_are) b f l h.turns
 
 -- ## One after the other
 

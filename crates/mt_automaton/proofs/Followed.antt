@@ -1,7 +1,7 @@
 -- Instances, one begin after another.
 use Rattle.std.proofs.Common.{◌≡◌, ℕ, ◌+◌, ◌*◌, ◌<◌, ◌≤◌, ◌⊎◌, Option, None, Some, List, length, refl, sym, ◌∙◌, ap, subst, inl, inr, arith}
 use Rattle.std.proofs.lemmas.Bool.{cases_eq, cases_lt}
-use Rattle.mt_places.specs.Places.{In, HasJust}
+use Rattle.mt_places.specs.Places.{In, room, HasJust}
 use Rattle.mt_automaton.proofs.Bits.{in_room}
 use Rattle.mt_automaton.specs.declared.part.Part.TheVariants.{Whole}
 use Rattle.mt_automaton.specs.declared.view.Mark.TheVariants.{Begins, Empty}
@@ -36,6 +36,11 @@ one_here way I at e here there set out new is_here is_there i only met size room
       let one : far way b f ≡ there = ap (λ x. far way x f) r.0 ∙ ap (far way at) same ∙ sym is_there in
       just.complete (far way b f) (inr one) (omega (arith, one, room, size));
 }
+
+-- one that ends in the text leads to a place of the text
+pub leads_in : (way : Way) (at e there tokens : ℕ) → there ≡ far way at e → at < e → e ≤ tokens → there ≤ tokens
+leads_in On at e there tokens is some within = omega (arith, is, within)
+leads_in Back at e there tokens is some within = omega (arith, is, some, within)
 
 pub none_begins : (I : ℕ → ℕ → Type 0) (at : ℕ) (found : Option ℕ) → found ≡ None → ((f : ℕ) → I at f → found ≡ Some f) → (f : ℕ) → I at f → ⊥
 none_begins I at found none only f i = let e : ◌≡◌ {A = Option ℕ} None (Some f) = sym none ∙ only f i in cc
@@ -85,50 +90,64 @@ all_begins way I from tokens set begins old new are none a = record {
 
 -- ## The begins of a tag
 
-pub begins_on : (v : Seen) (tag : ℕ) (set begins : List ℕ) → HasAllInside v.text → length begins ≡ length set → HasJust (λ k. In set k × Stands v (Begins tag) k) begins
+pub begins_on : (v : Seen) (tag : ℕ) (set begins : List ℕ) → HasAllInside v.text → length set ≡ width v → length begins ≡ length set → HasJust (λ k. In set k × Stands v (Begins tag) k) begins
     → AreBegins On (Longer v tag) v.text.tokens set begins
-begins_on v tag set begins inside size just = record {
-  all = λ b f i h. let lt = in_room set b h in just.complete b (h, (f, i.1)) (omega (arith, lt, size));
-  inside = λ b h. let s = just.sound b h in let r = inside (v.tag tag).kind (v.tag tag).test b s.1.0 s.1.1 in omega (arith, r.0, r.1);
+begins_on v tag set begins inside wide size just = record {
+  all = λ b f i h.
+      let lt = in_room set b h in
+      let low : b < v.text.tokens = omega (arith, i.some, i.within) in just.complete b (h, (omega (arith, low), (f, i.lies))) (omega (arith, lt, size));
+  inside = λ b h. let s = just.sound b h in omega (arith, s.1.0);
 }
 
 pub begins_back : (v : Seen) (tag : ℕ) (set begins : List ℕ) → HasAllInside v.text → length set ≡ width v → length begins ≡ length set → HasJust (Stands v (Begins tag)) begins
     → AreBegins Back (Longer v tag) v.text.tokens set begins
 begins_back v tag set begins inside wide size just = record {
-  all = λ b f i h. let r = inside (v.tag tag).kind (v.tag tag).test b f i.1 in just.complete b (f, i.1) (omega (arith, r.0, r.1, wide, size));
-  inside = λ b h. let s = just.sound b h in let r = inside (v.tag tag).kind (v.tag tag).test b s.0 s.1 in omega (arith, r.0, r.1);
+  all = λ b f i h. let low : b < v.text.tokens = omega (arith, i.some, i.within) in just.complete b (omega (arith, low), (f, i.lies)) (omega (arith, low, wide, size));
+  inside = λ b h. let s = just.sound b h in omega (arith, s.0);
 }
 
 -- ## Instances with tokens and without
 
-pub instance : (way : Way) (v : Seen) (tag : ℕ) (set kept out : List ℕ) → HasAllInside v.text → length kept ≡ length set → HasJust (λ k. In set k × Stands v (Empty tag) k) kept
-    → Adds way (Longer v tag) set kept out → Image (Along way (PartMatches v (Whole tag))) set out
-instance On v tag set kept out inside size just a = record {
+-- an instance between places for which there is room lies in the text
+in_text : (v : Seen) (tag : ℕ) (set : List ℕ) (b f : ℕ) → HasAllInside v.text → length set ≡ width v → b < room set → f < room set → Lies v tag b f → (b ≤ f) × (f ≤ v.text.tokens)
+in_text v tag set b f inside wide hb hf lies =
+    let g = inside (v.tag tag).kind (v.tag tag).test b f lies in (
+      elim g.begins [ inl low ↦ g.onward low | inr past ↦ absurd (omega (arith, past, hb, wide)) ],
+      elim g.ends [ inl low ↦ low | inr out ↦ absurd (omega (arith, out, hf, wide)) ],
+    )
+
+pub instance : (way : Way) (v : Seen) (tag : ℕ) (set kept out : List ℕ) → HasAllInside v.text → length set ≡ width v → length kept ≡ length set
+    → HasJust (λ k. In set k × Stands v (Empty tag) k) kept → Adds way (Longer v tag) set kept out → Image (Along way (PartMatches v (Whole tag))) set out
+instance On v tag set kept out inside wide size just a = record {
   width = a.width ∙ size;
   sound = λ f h. elim (a.sound f h) [
     | inl old ↦ let s = just.sound f old in (f, s.0, record { lies = s.1; labels_are = refl })
-    | inr r ↦ (r.0, r.1.1.1, record { lies = subst (Lies v tag r.0) (sym r.1.1.2) r.1.1.0.1; labels_are = refl })
+    | inr r ↦ (r.0, r.1.1.1, record { lies = subst (Lies v tag r.0) (sym r.1.1.2) r.1.1.0.lies; labels_are = refl })
   ];
-  complete = λ b f h r. let o = inside (v.tag tag).kind (v.tag tag).test b f r.lies in elim (cases_lt b f) [
-    | inl longer ↦ a.complete b f (longer, r.lies) h
-    | inr same ↦
-        let e : f ≡ b = omega (arith, same, o.0) in
-        let lt = in_room set b h in
-        a.kept f (subst (In kept) (sym e) (just.complete b (h, subst (Lies v tag b) e r.lies) (omega (arith, lt, size))))
-  ];
+  complete = λ b f h r below.
+      let lt = in_room set b h in
+      let o = in_text v tag set b f inside wide lt below r.lies in
+      elim (cases_lt b f) [
+        | inl longer ↦ a.complete b f (record { some = longer; within = o.1; lies = r.lies }) h
+        | inr same ↦
+            let e : f ≡ b = omega (arith, same, o.0) in
+            a.kept f (subst (In kept) (sym e) (just.complete b (h, subst (Lies v tag b) e r.lies) (omega (arith, lt, size))))
+      ];
 }
-instance Back v tag set kept out inside size just a = record {
+instance Back v tag set kept out inside wide size just a = record {
   width = a.width ∙ size;
   sound = λ b h. elim (a.sound b h) [
     | inl old ↦ let s = just.sound b old in (b, s.0, record { lies = s.1; labels_are = refl })
-    | inr r ↦ (r.1.0, r.1.1.1, record { lies = subst (λ x. Lies v tag x r.1.0) (sym r.1.1.2) r.1.1.0.1; labels_are = refl })
+    | inr r ↦ (r.1.0, r.1.1.1, record { lies = subst (λ x. Lies v tag x r.1.0) (sym r.1.1.2) r.1.1.0.lies; labels_are = refl })
   ];
-  complete = λ f b h r. let o = inside (v.tag tag).kind (v.tag tag).test b f r.lies in elim (cases_lt b f) [
-    | inl longer ↦ a.complete b f (longer, r.lies) h
-    | inr same ↦
-        let e : f ≡ b = omega (arith, same, o.0) in
-        let here : In set b = subst (In set) e h in
-        let lt = in_room set b here in
-        a.kept b (just.complete b (here, subst (Lies v tag b) e r.lies) (omega (arith, lt, size)))
-  ];
+  complete = λ f b h r below.
+      let lt = in_room set f h in
+      let o = in_text v tag set b f inside wide below lt r.lies in
+      elim (cases_lt b f) [
+        | inl longer ↦ a.complete b f (record { some = longer; within = o.1; lies = r.lies }) h
+        | inr same ↦
+            let e : f ≡ b = omega (arith, same, o.0) in
+            let here : In set b = subst (In set) e h in
+            a.kept b (just.complete b (here, subst (Lies v tag b) e r.lies) (omega (arith, below, size)))
+      ];
 }

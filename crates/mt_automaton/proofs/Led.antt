@@ -3,7 +3,7 @@ use Rattle.std.proofs.Common.{◌≡◌, ℕ, ◌+◌, ◌*◌, ◌<◌, ◌≤�
 use Rattle.std.proofs.lemmas.Bool.{cases_eq, cases_lt}
 use Rattle.mt_match_spec.specs.Matches as m
 use Rattle.mt_match_spec.specs.Labels.{no_labels, labelled, united}
-use Rattle.mt_places.specs.Places.{In, HasJust}
+use Rattle.mt_places.specs.Places.{In, room, HasJust}
 use Rattle.mt_automaton.proofs.Bits.{in_room}
 use Rattle.mt_automaton.specs.declared.part.Part.{Part}
 use Rattle.mt_automaton.specs.declared.labelled.Labelled.{Labelled}
@@ -11,10 +11,11 @@ use Rattle.mt_automaton.specs.declared.labelled.Labelled.TheVariants.{Plain, Tok
 use Rattle.mt_automaton.specs.declared.view.Mark.TheVariants.{Holds}
 use Rattle.mt_automaton.specs.declared.groups.Group.{Group}
 use Rattle.mt_automaton.specs.Parts.{Seen, PartMatches, Stands, meant, width}
-use Rattle.mt_automaton.specs.LabelledParts.{labelled_meant}
+use Rattle.mt_automaton.specs.LabelledParts.{Somehow, labelled_meant}
 use Rattle.mt_automaton.specs.Ways.{Image}
 use Rattle.mt_automaton.specs.Groups.{group, IsRowOf, Fine, AddsRows, Leads, TokenBelow}
 use Rattle.mt_automaton.proofs.Bare.{bare_part}
+use Rattle.mt_automaton.proofs.Forward.{Between}
 use Rattle.mt_automaton.proofs.Somehow.{Back}
 use Rattle.mt_automaton.proofs.Unions.{united_assoc, nine_none, labels_are_nine}
 use Rattle.mt_automaton.proofs.Grouped.{adds_nothing, adds_renamed, adds_then}
@@ -28,11 +29,12 @@ plain_there v part from allowed found kept old nine i just l f p =
     let r = i.sound f s.0 in
     record { is_allowed = s.1; begin = r.0; begins = r.1; labels = no_labels; matches = r.2; unite = p.0 ∙ sym (nine_none old nine) }
 
-pub plain_back : (v : Seen) (part : Part) (from allowed found kept old : List ℕ) → length old ≡ 9 → Image (PartMatches v part) from found → length kept ≡ length found
+pub plain_back : (v : Seen) (part : Part) (from allowed found kept old : List ℕ) → length old ≡ 9 → length allowed ≡ length from → Image (PartMatches v part) from found → length kept ≡ length found
     → HasJust (λ k. In found k × In allowed k) kept → (l : List ℕ) (f : ℕ) → Leads v (Plain part) from allowed old l f → (l ≡ old) × In kept f
-plain_back v part from allowed found kept old nine i same just l f r =
+plain_back v part from allowed found kept old nine even i same just l f r =
     let none : r.labels ≡ no_labels = bare_part v part r.begin f r.labels r.matches in
-    let there : In found f = i.complete r.begin f r.begins (subst (m.Matches v.text (meant v part) r.begin f) none r.matches) in
+    let below = in_room allowed f r.is_allowed in
+    let there : In found f = i.complete r.begin f r.begins (subst (m.Matches v.text (meant v part) r.begin f) none r.matches) (omega (arith, below, even)) in
     let lt = in_room found f there in
     (r.unite ∙ ap (united old) none ∙ nine_none old nine, just.complete f (there, r.is_allowed) (omega (arith, lt, same)))
 
@@ -63,12 +65,13 @@ next_below v right first n g allowed width old mid new e a b =
     ])
     (adds_then width (LeadsBelow v right first n allowed) (λ l f. Leads v right g.ends allowed g.labels l f) old mid new a b)
 
-pub both_lead : (v : Seen) (p : Labelled) (left right : Labelled) (from allowed cut old : List ℕ) (first : List Group) (n width : ℕ) (a b : List Group) → length old ≡ 9
+pub both_lead : (v : Seen) (p : Labelled) (left right : Labelled) (from allowed cut old : List ℕ) (first : List Group) (n width : ℕ) (a b : List Group) → length old ≡ 9 → Between (room allowed) (Somehow (m.Matches v.text (labelled_meant v left))) (Somehow (m.Matches v.text (labelled_meant v right)))
+    → length from ≡ length allowed
     → ((bb ff : ℕ) (labels : List ℕ) → m.Matches v.text (labelled_meant v p) bb ff labels → m.Joined (m.Matches v.text (labelled_meant v left)) (m.Matches v.text (labelled_meant v right)) bb ff labels)
     → ((bb ff : ℕ) (labels : List ℕ) → m.Joined (m.Matches v.text (labelled_meant v left)) (m.Matches v.text (labelled_meant v right)) bb ff labels → m.Matches v.text (labelled_meant v p) bb ff labels)
     → Image (Back (m.Matches v.text (labelled_meant v right))) allowed cut → AddsRows width (λ l f. Leads v left from cut old l f) [] first → n ≡ length first
     → AddsRows width (LeadsBelow v right first n allowed) a b → AddsRows width (λ l f. Leads v p from allowed old l f) a b
-both_lead v p left right from allowed cut old first n width a b nine parts whole back led end added =
+both_lead v p left right from allowed cut old first n width a b nine meet even parts whole back led end added =
     adds_renamed width (LeadsBelow v right first n allowed) (λ l f. Leads v p from allowed old l f) a b
     (λ l f r.
     let s = r.leads in
@@ -88,8 +91,10 @@ both_lead v p left right from allowed cut old first n width a b nine parts whole
     ])
     (λ l f r.
     let j = parts r.begin f r.labels r.matches in
+    let low = in_room from r.begin r.begins in
+    let mid : j.cut < room allowed = meet r.begin j.cut f (omega (arith, low, even)) (in_room allowed f r.is_allowed) (j.first_labels, j.first) (j.second_labels, j.second) in
     let x : Leads v left from cut old (united old j.first_labels) j.cut = record {
-      is_allowed = back.complete f j.cut r.is_allowed (j.second_labels, j.second);
+      is_allowed = back.complete f j.cut r.is_allowed (j.second_labels, j.second) mid;
       begin = r.begin;
       begins = r.begins;
       labels = j.first_labels;
@@ -132,20 +137,20 @@ either_leads v p left right from allowed old width a b c parts whole x y =
 
 -- ## Without labels
 
-pub plain_leads : (v : Seen) (part : Part) (from allowed found kept old : List ℕ) (a b : List Group) → length old ≡ 9 → length from ≡ width v → Image (PartMatches v part) from found
+pub plain_leads : (v : Seen) (part : Part) (from allowed found kept old : List ℕ) (a b : List Group) → length old ≡ 9 → length from ≡ width v → length allowed ≡ width v → Image (PartMatches v part) from found
     → length kept ≡ length found → HasJust (λ k. In found k × In allowed k) kept → AddsRows (length kept) (λ l f. (l ≡ old) × In kept f) a b
     → AddsRows (width v) (λ l f. Leads v (Plain part) from allowed old l f) a b
-plain_leads v part from allowed found kept old a b nine wide i same just x =
+plain_leads v part from allowed found kept old a b nine wide wide_allowed i same just x =
     let e : length kept ≡ width v = same ∙ i.width ∙ wide in
     adds_renamed (width v) (λ l f. (l ≡ old) × In kept f) (λ l f. Leads v (Plain part) from allowed old l f) a b
-    (plain_there v part from allowed found kept old nine i just) (plain_back v part from allowed found kept old nine i same just)
+    (plain_there v part from allowed found kept old nine i just) (plain_back v part from allowed found kept old nine (wide_allowed ∙ sym wide) i same just)
     (subst (λ w. AddsRows w (λ l f. (l ≡ old) × In kept f) a b) e x)
 
-pub plain_leads_nowhere : (v : Seen) (part : Part) (from allowed found kept old : List ℕ) (a : List Group) → length old ≡ 9 → Image (PartMatches v part) from found
+pub plain_leads_nowhere : (v : Seen) (part : Part) (from allowed found kept old : List ℕ) (a : List Group) → length old ≡ 9 → length from ≡ width v → length allowed ≡ width v → Image (PartMatches v part) from found
     → length kept ≡ length found → HasJust (λ k. In found k × In allowed k) kept → ((k : ℕ) → In kept k → ⊥) → Fine (width v) a
     → AddsRows (width v) (λ l f. Leads v (Plain part) from allowed old l f) a a
-plain_leads_nowhere v part from allowed found kept old a nine i same just empty fine = adds_nothing (width v) (λ l f. Leads v (Plain part) from allowed old l f) a fine
-    (λ l f r. let p = plain_back v part from allowed found kept old nine i same just l f r in empty f p.1)
+plain_leads_nowhere v part from allowed found kept old a nine wide wide_allowed i same just empty fine = adds_nothing (width v) (λ l f. Leads v (Plain part) from allowed old l f) a fine
+    (λ l f r. let p = plain_back v part from allowed found kept old nine (wide_allowed ∙ sym wide) i same just l f r in empty f p.1)
 
 -- ## Tokens with a label
 

@@ -1,5 +1,6 @@
 pub mod Bits
 pub mod Bare
+pub mod Forward
 pub mod Images
 pub mod Turned
 pub mod Followed
@@ -8,3 +9,13 @@ pub mod Spots
 pub mod Unions
 pub mod Grouped
 pub mod Led
+pub mod Listed
+pub mod Gathered
+pub mod FromOne
+pub mod Windows
+pub mod Bounded
+pub mod Gaps
+pub mod WrittenOut
+pub mod Compiled
+pub mod InText
+pub mod MovedRows

@@ -70,7 +70,7 @@ nine_one a n place e u = ap (λ k. united a (set (replicate k unset) n place)) (
 pub nine_kept : (a : List ℕ) (n place : ℕ) → length a ≡ 9 → get_or a n 0 ≢ unset → united a (labelled (suc n) place) ≡ a
 nine_kept a n place e u = ap (λ k. united a (set (replicate k unset) n place)) (sym e) ∙ united_kept a n place u
 
-labelled_length : (label place : ℕ) → length (labelled label place) ≡ 9
+pub labelled_length : (label place : ℕ) → length (labelled label place) ≡ 9
 labelled_length zero place = refl
 labelled_length (suc n) place = length-set no_labels n place
 

@@ -1,5 +1,8 @@
 -- Rows of a part with labels, in groups that share their labels.
-use Rattle.std.specs.Prelude.{ℕ, ◌+◌, ◌≡◌, ◌≢◌, ◌<◌, ◌⊎◌, List, [], length, slice_index_or}
+use Rattle.std.specs.Prelude.{ℕ, ◌+◌, ◌≡◌, ◌<◌, ◌≤◌, ◌⊎◌, List, [], length, slice_index_or}
+use Rattle.std.specs.declared.cmp.Ordering.TheVariants.{Less}
+use Rattle.std.specs.Ordering.{nat_cmp}
+use Rattle.std.specs.Cmp.Lexicographic.{slice_cmp}
 use Rattle.mt_match_spec.specs.Matches as m
 use Rattle.mt_match_spec.specs.Labels.{labelled, united}
 use Rattle.mt_places.specs.Places.{In}
@@ -22,9 +25,23 @@ pub record IsRowOf (groups : List Group) (labels : List ℕ) (f : ℕ) : Type 0 
   pub labelled : (group groups at).labels ≡ labels
   pub is_in : In (group groups at).ends f
 
--- each labels once, in sets of so many words, of which none is empty
+-- labels come before others: the first place in which they differ is lower there
+abbrev pub Before : (labels others : List ℕ) → Type 0
+Before labels others = slice_cmp nat_cmp labels others ≡ Less
+
+-- the labels of each group come before those of the next ones
+abbrev pub IsAscending : List Group → Type 0
+IsAscending groups = (i j : ℕ) → i < j → j < length groups → Before (group groups i).labels (group groups j).labels
+
+-- labels that no group has come behind the groups before a place, and before those from it on
+pub record StandsBetween (groups : List Group) (labels : List ℕ) (at : ℕ) : Type 0 where
+  pub within : at ≤ length groups
+  pub below : (i : ℕ) → i < at → Before (group groups i).labels labels
+  pub above : (i : ℕ) → at ≤ i → i < length groups → Before labels (group groups i).labels
+
+-- in ascending order of their labels, in sets of so many words, of which none is empty
 pub record Fine (width : ℕ) (groups : List Group) : Type 0 where
-  pub once : (i j : ℕ) → i < j → j < length groups → (group groups i).labels ≢ (group groups j).labels
+  pub ascending : IsAscending groups
   pub size : (i : ℕ) → i < length groups → length (group groups i).ends ≡ width
   pub some : (i : ℕ) → i < length groups → (f : ℕ) × In (group groups i).ends f
 

@@ -2,3 +2,8 @@ pub mod Parts
 pub mod Ways
 pub mod LabelledParts
 pub mod Groups
+pub mod RowsFrom
+pub mod Windows
+pub mod Bounds
+pub mod Compiled
+pub mod Compiling

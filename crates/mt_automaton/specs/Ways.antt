@@ -1,19 +1,26 @@
 -- Where a relation leads to from a set of places, on from begins to ends and back from ends to begins.
-use Rattle.std.specs.Prelude.{ℕ, ◌≡◌, ◌+◌, ◌<◌, ◌⊎◌, List, length}
-use Rattle.mt_places.specs.Places.{In}
+use Rattle.std.specs.Prelude.{ℕ, ◌≡◌, ◌+◌, ◌<◌, ◌≤◌, ◌⊎◌, List, length}
+use Rattle.mt_places.specs.Places.{In, room, HasJust}
 use Rattle.mt_automaton.specs.declared.view.Way.{Way}
 use Rattle.mt_automaton.specs.declared.view.Way.TheVariants.{On, Back}
 
--- `to` is what R leads to from the set
+-- `to` is what R leads to from the set, as far as there is room
 pub record Image (R : ℕ → ℕ → Type 0) (from to : List ℕ) : Type 0 where
   pub width : length to ≡ length from
   pub sound : (f : ℕ) → In to f → (b : ℕ) × In from b × R b f
-  pub complete : (b f : ℕ) → In from b → R b f → In to f
+  pub complete : (b f : ℕ) → In from b → R b f → f < room from → In to f
 
 -- a relation as it is followed
 abbrev pub Along : Way → (ℕ → ℕ → Type 0) → ℕ → ℕ → Type 0
 Along On R b f = R b f
 Along Back R b f = R f b
+
+-- so many places behind, or up to so many
+abbrev pub Later : (by b f : ℕ) → Type 0
+Later by b f = f ≡ b + by
+
+abbrev pub UpTo : (by b f : ℕ) → Type 0
+UpTo by b f = (b ≤ f) × (f ≤ b + by)
 
 -- where one stands before an instance is followed, and after
 abbrev pub near : Way → (begin end : ℕ) → ℕ
@@ -42,3 +49,10 @@ Below I at b f = (b < at) × I b f
 pub record AreBegins (way : Way) (I : ℕ → ℕ → Type 0) (tokens : ℕ) (set begins : List ℕ) : Type 0 where
   pub all : (b f : ℕ) → I b f → In set (near way b f) → In begins b
   pub inside : (b : ℕ) → In begins b → b < tokens + 1
+
+-- a turn was counted: of what it leads to, what is new was kept, and was added to all that is counted
+pub record Counts (turn all kept more : List ℕ) : Type 0 where
+  pub kept_size : length kept ≡ length turn
+  pub all_size : length more ≡ length all
+  pub kept_are : HasJust (λ place. In turn place × ¬ In all place) kept
+  pub more_are : HasJust (λ place. In all place ⊎ In kept place) more

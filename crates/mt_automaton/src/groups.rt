@@ -1,11 +1,11 @@
 //! Matches with labels, in groups that share their labels.
 
-ghost use Rattle.std.specs.Prelude.{◌≡◌, ◌≢◌, ℕ, ◌<◌, ◌≤◌, ◌*◌, length, OnOk};
+ghost use Rattle.std.specs.Prelude.{◌≡◌, ℕ, ◌<◌, ◌*◌, length, OnOk, IfOk, IfErr};
 ghost use Rattle.mt_match_spec.specs.Labels.{labelled, united};
 ghost use Rattle.mt_places.specs.Places.{In};
 ghost use Rattle.mt_automaton.specs.declared.labelled.Labelled.TheVariants.{Plain as PlainOf, Token as TokenOf};
 ghost use Rattle.mt_automaton.specs.Parts.{width};
-ghost use Rattle.mt_automaton.specs.Groups.{group, Fine, AddsRows, Leads, TokenBelow};
+ghost use Rattle.mt_automaton.specs.Groups.{group, IsAscending, StandsBetween, Fine, AddsRows, Leads, TokenBelow};
 
 use crate::labelled::{Labelled, labelled_starts};
 use crate::part::Part;
@@ -14,7 +14,7 @@ use crate::reach::ends;
 use crate::view::{Mark, Standing, View};
 use mt_base::NoMemory;
 use mt_places::Places;
-use std::alloc::Global;
+use std::cmp::Ordering;
 
 /// The place that a label has which is not set.
 pub const UNSET: u32 = u32::MAX;
@@ -26,33 +26,60 @@ pub struct Group {
     pub ends: Places,
 }
 
-/// The number of the group with these labels, or how many groups there are.
-fn find(groups: &[Group], labels: [u32; 9]) -> usize
-    ensures found { result < length groups.now → (group groups.now result).labels ≡ labels }
-    ensures none { (i : ℕ) → i < result → (group groups.now i).labels ≢ labels }
-    ensures within { result ≤ length groups.now }
+/// Where a group with these labels stands, or where it would.
+fn find(groups: &[Group], labels: [u32; 9]) -> Result<usize, usize>
+    requires { IsAscending groups.now }
+    ensures found { IfOk result (λ at. (at < length groups.now) × ((group groups.now at).labels ≡ labels)) }
+    ensures none { IfErr result (λ at. StandsBetween groups.now labels at) }
 {
-    for (at, group) in groups.iter().enumerate() {
-        if group.labels == labels {
-            return at;
+    let mut low = 0;
+    let mut high = groups.len();
+    while low < high {
+        let middle = low + (high - low) / 2;
+        match groups[middle].labels.cmp(&labels) {
+            Ordering::Equal => return Ok(middle),
+            Ordering::Less => low = middle + 1,
+            Ordering::Greater => high = middle,
         }
     }
-    groups.len()
+    Err(low)
+}
+
+/// The same, and where the labels come behind those of the last group, by one comparison.
+fn find_or_last(groups: &[Group], labels: [u32; 9]) -> Result<usize, usize>
+    requires { IsAscending groups.now }
+    ensures found { IfOk result (λ at. (at < length groups.now) × ((group groups.now at).labels ≡ labels)) }
+    ensures none { IfErr result (λ at. StandsBetween groups.now labels at) }
+{
+    let count = groups.len();
+    if count > 0 && groups[count - 1].labels.cmp(&labels).is_lt() {
+        return Err(count);
+    }
+    find(groups, labels)
 }
 
 /// Adds ends under some labels.
-fn merge(groups: &mut Vec<Group>, labels: [u32; 9], set: Places) -> Result<(), NoMemory>
+fn merge(
+    pool: &mut Pool,
+    groups: &mut Vec<Group>,
+    labels: [u32; 9],
+    set: Places,
+) -> Result<(), NoMemory>
     requires fine { Fine (length set) groups.old.items }
     requires some { (f : ℕ) × In set f }
     ensures { OnOk result (AddsRows (length set) (λ l f. (l ≡ labels) × In set f) groups.old.items groups.new.items) }
 {
-    let at = find(groups, labels);
-    if at < groups.len() {
-        groups[at].ends.add(&set);
-        return Ok(());
+    match find_or_last(groups, labels) {
+        Ok(at) => {
+            groups[at].ends.add(&set);
+            pool.give(set);
+            Ok(())
+        }
+        Err(at) => {
+            groups.insert(at, Group { labels, ends: set })?;
+            Ok(())
+        }
     }
-    groups.push(Group { labels, ends: set })?;
-    Ok(())
 }
 
 /// The rows of a part without labels.
@@ -78,7 +105,7 @@ fn add_plain<V: View>(
         pool.give(found);
         return Ok(());
     }
-    merge(out, labels, found)
+    merge(pool, out, labels, found)
 }
 
 /// The labels with one of them set, if it is not set yet; 0 is none.
@@ -112,7 +139,7 @@ fn add_each(
         let mut end = pool.copy(places)?;
         end.clear();
         end.insert(at + 1);
-        merge(out, with_label(labels, label, at), end)?;
+        merge(pool, out, with_label(labels, label, at), end)?;
         from = at + 1;
     }
     Ok(())
@@ -150,7 +177,6 @@ fn add_token<V: View>(
 
 /// Adds the rows of the matches that begin in one set and end in the other, where some labels are given before.
 pub fn labelled_rows<V: View>(
-    alloc: Global,
     pool: &mut Pool,
     view: &V,
     part: &Labelled,
@@ -173,26 +199,18 @@ pub fn labelled_rows<V: View>(
         Labelled::Seq(left, right) => {
             let again = pool.copy(allowed)?;
             let cut = labelled_starts(pool, view, right, again)?;
-            let mut first = Vec::new(alloc);
-            labelled_rows(alloc, pool, view, left, from, &cut, labels, &mut first)?;
+            let mut first = pool.groups();
+            labelled_rows(pool, view, left, from, &cut, labels, &mut first)?;
             pool.give(cut);
             for group in &first {
-                labelled_rows(
-                    alloc,
-                    pool,
-                    view,
-                    right,
-                    &group.ends,
-                    allowed,
-                    group.labels,
-                    out,
-                )?;
+                labelled_rows(pool, view, right, &group.ends, allowed, group.labels, out)?;
             }
+            pool.give_groups(first);
             Ok(())
         }
         Labelled::Choice(left, right) => {
-            labelled_rows(alloc, pool, view, left, from, allowed, labels, out)?;
-            labelled_rows(alloc, pool, view, right, from, allowed, labels, out)
+            labelled_rows(pool, view, left, from, allowed, labels, out)?;
+            labelled_rows(pool, view, right, from, allowed, labels, out)
         }
     }
 }

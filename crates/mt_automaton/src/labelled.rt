@@ -1,7 +1,7 @@
 //! Parts of a query with labels.
 
 ghost use Rattle.std.specs.Prelude.{◌≡◌, length, IfOk};
-ghost use Rattle.mt_automaton.specs.Parts.{width};
+ghost use Rattle.mt_automaton.specs.Parts.{HasAllInside, width};
 ghost use Rattle.mt_automaton.specs.LabelledParts.{MatchesSomehow};
 ghost use Rattle.mt_automaton.specs.Ways.{Image};
 
@@ -30,8 +30,10 @@ pub fn labelled_starts<V: View>(
     to: Places,
 ) -> Result<Places, NoMemory>
     requires { length to ≡ width (V.seen view.now) }
-    ensures { IfOk result (λ out. Image (λ end begin. MatchesSomehow (V.seen view.now) part.now begin end) to out) }
+    ensures inside { HasAllInside (V.seen view.now).text }
+    ensures begins { IfOk result (λ out. Image (λ end begin. MatchesSomehow (V.seen view.now) part.now begin end) to out) }
 {
+    let _inside = view.tokens();
     match part {
         Labelled::Plain(plain) => starts(pool, view, plain, to),
         Labelled::Token(_, test) => starts(pool, view, &Part::Token(*test), to),

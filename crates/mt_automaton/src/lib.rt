@@ -5,23 +5,35 @@
 //!
 //! A part with labels (`Labelled`) leads from a set of begins to the ends that are allowed with the places of its labels (`labelled_rows`), in groups that share their
 //! labels. What the first of two parts may end at is where the second begins (`labelled_starts`), so nothing is followed from which no match comes.
+//!
+//! A part of a text is a text too (`Window`), and its matches are those of the text that lie in it. `furthest` tells how far the matches lead that begin at a place, so
+//! all of them lie in a window around it.
 #![tactic(auto)]
 
+mod bound;
+mod compile;
 mod groups;
 mod labelled;
 mod part;
 mod pool;
 mod reach;
+mod rows;
+mod rows_of_text;
 #[cfg(test)]
 mod tests;
 mod view;
+mod window;
 
+pub use bound::{furthest, furthest_plain};
+pub use compile::{Automaton, automaton_matches, labels_stand};
 pub use groups::{Group, UNSET, labelled_rows};
 pub use labelled::{Labelled, labelled_starts};
 pub use part::Part;
 pub use pool::Pool;
 pub use reach::{ends, starts};
+pub use rows::Work;
 pub use view::{Mark, View};
+pub use window::Window;
 
 fn shared<T: Send + Sync>() {}
 
@@ -30,5 +42,7 @@ pub fn are_shared() {
     shared::<Part>();
     shared::<Labelled>();
     shared::<Pool>();
+    shared::<Work>();
+    shared::<Automaton>();
     shared::<Mark>();
 }

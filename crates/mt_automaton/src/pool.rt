@@ -1,17 +1,19 @@
-//! Sets of places that are used again.
+//! Sets of places, and lists of groups, that are used again.
 
-ghost use Rattle.std.specs.Prelude.{◌≡◌, ℕ, ◌≤◌, length, IfOk};
+ghost use Rattle.std.specs.Prelude.{◌≡◌, ℕ, ◌≤◌, [], length, IfOk};
 ghost use Rattle.mt_places.specs.Places.{In};
 
+use crate::groups::Group;
 use mt_base::NoMemory;
 use mt_places::Places;
 use std::alloc::Global;
 
-/// Sets that are done with, whose memory the next ones take.
+/// Sets and lists of groups that are done with, whose memory the next ones take.
 #[derive(Drop)]
 pub struct Pool {
     alloc: Global,
     free: Vec<Places>,
+    lists: Vec<Vec<Group>>,
 }
 
 impl Pool {
@@ -20,6 +22,7 @@ impl Pool {
         Pool {
             alloc,
             free: Vec::new(alloc),
+            lists: Vec::new(alloc),
         }
     }
 
@@ -51,6 +54,27 @@ impl Pool {
             Err(_) => {}
         }
     }
+
+    /// A list without groups. It takes no memory until a group is put into it, and none then where the list was as long before.
+    pub fn groups(&mut self) -> Vec<Group>
+        ensures { result.items ≡ [] }
+    {
+        match self.lists.pop() {
+            Some(list) => cleared(list),
+            None => Vec::new(self.alloc),
+        }
+    }
+
+    /// Takes a list of groups back, and the set of each of them.
+    pub fn give_groups(&mut self, mut groups: Vec<Group>) {
+        while let Some(group) = groups.pop() {
+            self.give(group.ends);
+        }
+        match self.lists.push(groups) {
+            Ok(()) => {}
+            Err(_) => {}
+        }
+    }
 }
 
 /// The set with no place in it, and of this width.
@@ -61,4 +85,12 @@ fn emptied(mut set: Places, width: usize) -> Result<Places, NoMemory>
 {
     set.reset(width)?;
     Ok(set)
+}
+
+/// The list with no group in it.
+fn cleared(mut list: Vec<Group>) -> Vec<Group>
+    ensures { result.items ≡ [] }
+{
+    list.clear();
+    list
 }

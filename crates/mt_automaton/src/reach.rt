@@ -1,16 +1,16 @@
 //! Where a part leads to from a set of places.
 
-ghost use Rattle.std.specs.Prelude.{◌≡◌, ◌<◌, length, IfOk};
+ghost use Rattle.std.specs.Prelude.{◌≡◌, ◌+◌, ◌<◌, ◌≤◌, ◌⊎◌, length, IfOk};
 ghost use Rattle.mt_places.specs.Places.{In, HasJust};
 ghost use Rattle.mt_automaton.specs.Parts.{PartMatches, Stands, Longer, HasAllInside, width};
-ghost use Rattle.mt_automaton.specs.Ways.{Image, Along, Adds, From, AreBegins, near, far};
-ghost use Rattle.mt_automaton.specs.declared.part.Part.TheVariants.{Token as OneToken, Whole as OneWhole};
+ghost use Rattle.mt_automaton.specs.Ways.{Image, Along, Adds, From, AreBegins, Counts, Later, UpTo, near, far};
+ghost use Rattle.mt_automaton.specs.declared.part.Part.TheVariants.{Token as OneToken, Whole as OneWhole, Gap as OneGap};
 
 use crate::part::Part;
 use crate::pool::Pool;
 use crate::view::{Mark, Standing, View, Way};
 use mt_base::NoMemory;
-use mt_places::Places;
+use mt_places::{Below, Places};
 
 /// One token.
 fn token<V: View>(view: &V, test: u32, way: Way, mut set: Places) -> Places
@@ -45,31 +45,21 @@ fn ordered(way: Way, begin: u32, end: u32) -> (u32, u32)
     }
 }
 
-/// Adds to `out` where the instance of a tag leads to that begins at a place and has a token. `last` is the place behind the last token.
-fn follow_one<V: View>(
-    view: &V,
-    tag: u32,
-    way: Way,
-    last: u32,
-    at: u32,
-    set: &Places,
-    out: &mut Places,
-)
-    requires last { last ≡ (V.seen view.now).text.tokens }
-    requires inside { HasAllInside (V.seen view.now).text }
+/// Adds to `out` where the instance of a tag leads to that begins at a place and has a token.
+fn follow_one<V: View>(view: &V, tag: u32, way: Way, at: u32, set: &Places, out: &mut Places)
     requires set { length set.now ≡ width (V.seen view.now) }
     requires out { length out.old ≡ width (V.seen view.now) }
     ensures { Adds way (From (Longer (V.seen view.now) tag) at) set.now out.old out.new }
 {
     if let Some(end) = view.whole_end(tag, at) {
         let (here, there) = ordered(way, at, end);
-        if there <= last && set.contains(here) {
+        if set.contains(here) {
             out.insert(there);
         }
     }
 }
 
-/// Adds to `out` where the instances of a tag lead to that have a token. `begins` has the begins of those that are met from the set.
+/// Adds to `out` where the instances of a tag lead to that have a token. `last` is the place behind the last token, and `begins` has the begins of those that are met from the set.
 fn follow<V: View>(
     view: &V,
     tag: u32,
@@ -81,7 +71,6 @@ fn follow<V: View>(
 )
     requires last { last ≡ (V.seen view.now).text.tokens }
     requires few { last < 4294967295 }
-    requires inside { HasAllInside (V.seen view.now).text }
     requires begins { AreBegins way (Longer (V.seen view.now) tag) (V.seen view.now).text.tokens set.now begins.now }
     requires set { length set.now ≡ width (V.seen view.now) }
     requires out { length out.old ≡ width (V.seen view.now) }
@@ -89,7 +78,7 @@ fn follow<V: View>(
 {
     let mut from = 0;
     while let Some(at) = begins.first_from(from) {
-        follow_one(view, tag, way, last, at, set, out);
+        follow_one(view, tag, way, at, set, out);
         from = at + 1;
     }
 }
@@ -151,7 +140,102 @@ fn marked<V: View>(view: &V, mark: Mark, mut set: Places) -> Places
     set
 }
 
-/// Where a part leads to: on from begins to ends, or back from ends to begins.
+/// What is in either of two sets.
+fn joined(pool: &mut Pool, mut all: Places, more: Places) -> Places
+    ensures width { length result ≡ length all }
+    ensures places { HasJust (λ place. In all place ⊎ In more place) result }
+{
+    all.add(&more);
+    pool.give(more);
+    all
+}
+
+/// What no turn at all leads to: the set itself, where none is asked for.
+fn unturned(pool: &mut Pool, least: u32, set: &Places) -> Result<Places, NoMemory>
+    ensures width { IfOk result (λ all. length all ≡ length set.now) }
+    ensures places { IfOk result (λ all. HasJust (λ place. (least ≡ 0) × In set.now place) all) }
+{
+    let mut all = pool.copy(set)?;
+    if least > 0 {
+        all.clear();
+    }
+    Ok(all)
+}
+
+/// Counts a turn, where it is not one too few: keeps of it what is new, and adds that to all that is counted.
+fn count(least: u32, turns: u32, turn: &mut Places, all: &mut Places)
+    requires { length turn.old ≡ length all.old }
+    ensures few { turns < least → (turn.new ≡ turn.old) × (all.new ≡ all.old) }
+    ensures enough { least ≤ turns → Counts turn.old all.old turn.new all.new }
+{
+    if least <= turns {
+        turn.remove(all);
+        all.add(turn);
+    }
+}
+
+/// Moves each place by so many, along the way.
+fn shift(set: &mut Places, way: Way, by: u32)
+    ensures { Image (Along way (Later by)) set.old set.new }
+{
+    match way {
+        Way::On => set.up(by),
+        Way::Back => set.down(by),
+    }
+}
+
+/// How far a set is moved next that is spread already, to be spread by so many more: at most one place further than it is spread, so that none is left out.
+fn stride(spread: u32, more: u32) -> u32
+    requires { 0 < more }
+    ensures some { 0 < result }
+    ensures low { result ≤ spread + 1 }
+    ensures high { result ≤ more }
+{
+    if spread < more { spread + 1 } else { more }
+}
+
+/// Where up to so many steps of one place lead to. What is spread doubles with each turn.
+fn spread(pool: &mut Pool, way: Way, by: u32, mut set: Places) -> Result<Places, NoMemory>
+    ensures { IfOk result (λ out. Image (Along way (UpTo by)) set out) }
+{
+    let mut done = 0;
+    while done < by {
+        let step = stride(done, by - done);
+        let mut more = pool.copy(&set)?;
+        shift(&mut more, way, step);
+        set = joined(pool, set, more);
+        done += step;
+    }
+    Ok(set)
+}
+
+/// So many tokens at least and at most, whatever they are.
+fn gap<V: View>(
+    pool: &mut Pool,
+    view: &V,
+    least: u32,
+    most: u32,
+    way: Way,
+    mut set: Places,
+) -> Result<Places, NoMemory>
+    requires { length set ≡ width (V.seen view.now) }
+    ensures { IfOk result (λ out. Image (Along way (PartMatches (V.seen view.now) (OneGap least most))) set out) }
+{
+    let last = view.tokens();
+    let all = unturned(pool, least, &set)?;
+    if most < least {
+        pool.give(set);
+        return Ok(all);
+    }
+    let inside = Below { end: last + 1 };
+    set.keep(&inside);
+    shift(&mut set, way, least);
+    let mut reached = spread(pool, way, most - least, set)?;
+    reached.keep(&inside);
+    Ok(joined(pool, all, reached))
+}
+
+/// Where a part leads to: on from begins to ends, or back from ends to begins. A repetition ends where a turn leads to no new place.
 fn reach<V: View>(
     pool: &mut Pool,
     view: &V,
@@ -159,7 +243,8 @@ fn reach<V: View>(
     way: Way,
     set: Places,
 ) -> Result<Places, NoMemory>
-    requires { length set ≡ width (V.seen view.now) }
+    requires inside { HasAllInside (V.seen view.now).text }
+    requires set { length set ≡ width (V.seen view.now) }
     ensures { IfOk result (λ out. Image (Along way (PartMatches (V.seen view.now) part.now)) set out) }
 {
     match part {
@@ -167,6 +252,7 @@ fn reach<V: View>(
         Part::Begin(tag) => Ok(marked(view, Mark::Begins(*tag), set)),
         Part::End(tag) => Ok(marked(view, Mark::Ends(*tag), set)),
         Part::Whole(tag) => whole(pool, view, *tag, way, set),
+        Part::Gap(least, most) => gap(pool, view, *least, *most, way, set),
         Part::Seq(left, right) => match way {
             Way::On => {
                 let cut = reach(pool, view, left, way, set)?;
@@ -179,18 +265,12 @@ fn reach<V: View>(
         },
         Part::Choice(left, right) => {
             let again = pool.copy(&set)?;
-            let mut all = reach(pool, view, left, way, set)?;
+            let all = reach(pool, view, left, way, set)?;
             let more = reach(pool, view, right, way, again)?;
-            all.add(&more);
-            pool.give(more);
-            Ok(all)
+            Ok(joined(pool, all, more))
         }
         Part::Repeat(inner, least, most) => {
-            let mut all = if *least == 0 {
-                pool.copy(&set)?
-            } else {
-                pool.none(set.width())?
-            };
+            let mut all = unturned(pool, *least, &set)?;
             let mut turn = set;
             for k in 0..*most {
                 if turn.is_empty() {
@@ -198,9 +278,7 @@ fn reach<V: View>(
                     return Ok(all);
                 }
                 turn = reach(pool, view, inner, way, turn)?;
-                if *least <= k + 1 {
-                    all.add(&turn);
-                }
+                count(*least, k + 1, &mut turn, &mut all);
             }
             pool.give(turn);
             Ok(all)
@@ -218,6 +296,7 @@ pub fn ends<V: View>(
     requires { length from ≡ width (V.seen view.now) }
     ensures { IfOk result (λ out. Image (PartMatches (V.seen view.now) part.now) from out) }
 {
+    let _inside = view.tokens();
     reach(pool, view, part, Way::On, from)
 }
 
@@ -231,5 +310,6 @@ pub fn starts<V: View>(
     requires { length to ≡ width (V.seen view.now) }
     ensures { IfOk result (λ out. Image (λ end begin. PartMatches (V.seen view.now) part.now begin end) to out) }
 {
+    let _inside = view.tokens();
     reach(pool, view, part, Way::Back, to)
 }

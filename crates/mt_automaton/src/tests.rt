@@ -2,14 +2,22 @@
 
 ghost use Rattle.std.specs.Prelude.{◌≡◌, ◌<◌, ◌≤◌, true, length, IfOk};
 ghost use Rattle.mt_places.specs.Places.{WordIs};
+ghost use Rattle.mt_cql.specs.Shape.{shape};
+ghost use Rattle.mt_automaton.specs.Compiled.{LabelsStand};
 
-use super::{Labelled, Mark, Part, Pool, UNSET, View, ends, labelled_rows, starts};
+use super::rows::rows_of_part;
+use super::{
+    Automaton, Labelled, Mark, Part, Pool, UNSET, View, Window, Work, ends, furthest,
+    furthest_plain, labelled_rows, starts,
+};
 use mt_base::NoMemory;
+use mt_cql::{Expr, Test};
 use mt_places::{Below, Marks, Places};
+use mt_rows::{EvalError, Rows};
 use std::alloc::Global;
 use std::test::Fail;
 
-/// A text in which every test holds of the same tokens, and which has one instance, of every tag.
+/// A text in which every test but `Any` holds of the same tokens, and which has one instance, of every tag.
 #[derive(Drop)]
 struct Spots {
     tokens: u32,
@@ -40,13 +48,13 @@ fn alone_if(is: bool, place: u32, at: usize) -> u64
 }
 
 impl View for Spots {
-    ghost use Rattle.std.specs.Prelude.{◌≡◌};
+    ghost use Rattle.std.specs.Prelude.{◌≡◌, ◌⊎◌};
     ghost use Rattle.mt_places.specs.Places.{In};
-    ghost use Rattle.mt_text_spec.specs.Queries.{Any};
+    ghost use Rattle.mt_text_spec.specs.Queries.{Any, Not};
 
     ghost seen = { λ s. record {
-      text = record { tokens = s.tokens; holds = λ test place. In s.spots place; lies = λ kind test begin end. (begin ≡ s.begin) × (end ≡ s.end) };
-      test = λ n. Any;
+      text = record { tokens = s.tokens; holds = λ test place. In s.spots place ⊎ (test ≡ Any); lies = λ kind test begin end. (begin ≡ s.begin) × (end ≡ s.end) };
+      test = λ n. Not Any;
       tag = λ n. record { kind = n; test = Any };
     } };
 
@@ -72,6 +80,10 @@ impl View for Spots {
         } else {
             None
         }
+    }
+
+    fn last_end(&self, _: u32, _: u32) -> u32 {
+        self.end
     }
 }
 
@@ -158,6 +170,10 @@ fn each_form(rt: HostRuntime) -> Result<(), Fail> {
             0b100000,
             0,
         ),
+        ("gap", Part::Gap(1, 2), 0b1111100, 0b1111),
+        ("gap of none", Part::Gap(0, 0), 0b11110, 0b11110),
+        ("wide gap", Part::Gap(3, 40), 0b1110000, 0b11),
+        ("no gap", Part::Gap(2, 1), 0, 0),
         ("never", repeat(alloc, Part::Token(0), 1, 0)?, 0, 0),
     ] {
         let got = both_ways(alloc, &text, &part)?;
@@ -172,6 +188,52 @@ fn an_instance_without_tokens(rt: HostRuntime) -> Result<(), Fail> {
     let text = six(alloc, 2, 2)?;
     let got = both_ways(alloc, &text, &Part::Whole(0))?;
     assert_eq!(rt; got, (0b100, 0b100));
+    Ok(())
+}
+
+/// The same in the first three tokens alone.
+fn in_three(alloc: Global, text: &Spots, part: &Part) -> Result<(u64, u64), NoMemory>
+    requires { text.now.tokens ≡ 6 }
+{
+    let window = Window::new(text, 0, 3);
+    let mut pool = Pool::new(alloc);
+    let on = ends(&mut pool, &window, part, four(alloc)?)?;
+    let back = starts(&mut pool, &window, part, four(alloc)?)?;
+    Ok((on.word(0), back.word(0)))
+}
+
+#[test]
+fn an_instance_that_ends_outside(rt: HostRuntime) -> Result<(), Fail> {
+    let alloc = rt.alloc();
+    let text = six(alloc, 1, 4)?;
+    for (name, part, on, back) in [
+        ("token", Part::Token(0), 0b100, 0b10),
+        ("begin", Part::Begin(0), 0b10, 0b10),
+        ("end", Part::End(0), 0, 0),
+        ("whole", Part::Whole(0), 0, 0),
+        ("gap", Part::Gap(1, 2), 0b1100, 0b111),
+    ] {
+        let got = in_three(alloc, &text, &part)?;
+        assert_eq!(rt; got, (on, back), "{name}");
+    }
+    Ok(())
+}
+
+#[test]
+fn how_far(rt: HostRuntime) -> Result<(), Fail> {
+    let alloc = rt.alloc();
+    let text = six(alloc, 1, 4)?;
+    let up_to_two = repeat(alloc, Part::Token(0), 0, 2)?;
+    assert_eq!(rt; furthest_plain(&text, &up_to_two, 1), 3);
+    assert_eq!(rt; furthest_plain(&text, &up_to_two, 5), 6);
+    let wholes = repeat(alloc, Part::Whole(0), 1, 1000000)?;
+    assert_eq!(rt; furthest_plain(&text, &wholes, 1), 4);
+    let two = Labelled::Seq(
+        Box::new(alloc, Labelled::Token(1, 0))?,
+        Box::new(alloc, Labelled::Plain(Part::Gap(0, 1)))?,
+    );
+    assert_eq!(rt; furthest(&text, &two, 3), 5);
+    assert_eq!(rt; Window::around(&text, &two, 3).base(), 0);
     Ok(())
 }
 
@@ -191,9 +253,8 @@ fn groups_of(alloc: Global, text: &Spots, part: &Labelled) -> Result<String, NoM
     let mut pool = Pool::new(alloc);
     let from = four(alloc)?;
     let allowed = seven(alloc)?;
-    let mut groups = Vec::new(alloc);
+    let mut groups = pool.groups();
     labelled_rows(
-        alloc,
         &mut pool,
         text,
         part,
@@ -216,6 +277,44 @@ fn groups_of(alloc: Global, text: &Spots, part: &Labelled) -> Result<String, NoM
     Ok(written)
 }
 
+/// `1:[]? 2:[]{1,1}`
+fn optional_then_one(alloc: Global) -> Result<Expr, NoMemory>
+    ensures { IfOk result (λ expr. LabelsStand (shape expr)) }
+{
+    let first = Expr::Token {
+        label: 1,
+        test: Test::Any,
+    };
+    let second = Expr::Token {
+        label: 2,
+        test: Test::Any,
+    };
+    let optional = Expr::Repeat {
+        inner: Box::new(alloc, first)?,
+        least: 0,
+        most: 1,
+    };
+    let once = Expr::Repeat {
+        inner: Box::new(alloc, second)?,
+        least: 1,
+        most: 1,
+    };
+    Ok(Expr::Seq(Box::new(alloc, optional)?, Box::new(alloc, once)?))
+}
+
+#[test]
+fn repetitions_of_labels_are_written_out(rt: HostRuntime) -> Result<(), Fail> {
+    let alloc = rt.alloc();
+    let text = six(alloc, 1, 4)?;
+    let expr = optional_then_one(alloc)?;
+    let automaton = Automaton::compile(alloc, &expr)?;
+    assert_eq!(rt;
+        groups_of(alloc, &text, &automaton.part)?.as_str(),
+        "3,4:32 4294967295,1:4 4294967295,3:16 4294967295,4:32 "
+    );
+    Ok(())
+}
+
 #[test]
 fn labels_tell_groups_apart(rt: HostRuntime) -> Result<(), Fail> {
     let alloc = rt.alloc();
@@ -233,6 +332,197 @@ fn labels_tell_groups_apart(rt: HostRuntime) -> Result<(), Fail> {
     assert_eq!(rt;
         groups_of(alloc, &text, &moving)?.as_str(),
         "4294967295,1:4 4294967295,3:16 4294967295,4:32 "
+    );
+    Ok(())
+}
+
+/// The rows that begin at the places from one on, up to another, as text: the span, and the labels 1 and 2, of which 9 is none.
+fn rows_of(
+    alloc: Global,
+    text: &Spots,
+    part: &Labelled,
+    begins: (u32, u32),
+    room: u32,
+) -> Result<String, NoMemory> {
+    let mut work = Work::new(alloc);
+    let mut rows = Rows::new(alloc);
+    let mut written = String::new(alloc);
+    for begin in begins.0..begins.1 {
+        match rows_of_part(
+            &mut work.pool,
+            &mut work.rows,
+            text,
+            part,
+            7,
+            begin,
+            room,
+            &mut rows,
+        ) {
+            Ok(()) => {}
+            Err(EvalError::TooManyRows) => {
+                write!(&mut written, "too many at {} ", begin).map_err(|_| NoMemory)?;
+            }
+            Err(EvalError::NoMemory) => return Err(NoMemory),
+        }
+    }
+    for i in 0..rows.len() {
+        let row = rows.get(i);
+        write!(
+            &mut written,
+            "{}-{}:{}{} ",
+            row.span().begin(),
+            row.span().end(),
+            row.labels()[0].min(9),
+            row.labels()[1].min(9)
+        )
+        .map_err(|_| NoMemory)?;
+    }
+    Ok(written)
+}
+
+#[test]
+fn rows_without_labels(rt: HostRuntime) -> Result<(), Fail> {
+    let alloc = rt.alloc();
+    let text = six(alloc, 1, 4)?;
+    let part = Labelled::Plain(repeat(alloc, Part::Token(0), 0, 2)?);
+    assert_eq!(rt;
+        rows_of(alloc, &text, &part, (3, 4), 2)?.as_str(),
+        "3-4:99 3-5:99 "
+    );
+    assert_eq!(rt;
+        rows_of(alloc, &text, &part, (0, 9), 2)?.as_str(),
+        "1-2:99 3-4:99 3-5:99 4-5:99 "
+    );
+    assert_eq!(rt;
+        rows_of(alloc, &text, &part, (3, 4), 1)?.as_str(),
+        "too many at 3 3-4:99 "
+    );
+    assert_eq!(rt; rows_of(alloc, &text, &part, (6, 7), 0)?.as_str(), "");
+    Ok(())
+}
+
+#[test]
+fn rows_of_one_group(rt: HostRuntime) -> Result<(), Fail> {
+    let alloc = rt.alloc();
+    let text = six(alloc, 1, 4)?;
+    let rest = Labelled::Plain(repeat(alloc, Part::Token(0), 0, 1)?);
+    let part = Labelled::Seq(
+        Box::new(alloc, Labelled::Token(1, 0))?,
+        Box::new(alloc, rest)?,
+    );
+    assert_eq!(rt;
+        rows_of(alloc, &text, &part, (2, 4), 2)?.as_str(),
+        "3-4:39 3-5:39 "
+    );
+    assert_eq!(rt;
+        rows_of(alloc, &text, &part, (3, 4), 1)?.as_str(),
+        "too many at 3 3-4:39 "
+    );
+    Ok(())
+}
+
+#[test]
+fn rows_of_more_groups(rt: HostRuntime) -> Result<(), Fail> {
+    let alloc = rt.alloc();
+    let text = six(alloc, 1, 4)?;
+    let rest = Labelled::Plain(repeat(alloc, Part::Token(0), 0, 1)?);
+    let longer = Labelled::Seq(
+        Box::new(alloc, Labelled::Token(1, 0))?,
+        Box::new(alloc, rest)?,
+    );
+    let part = Labelled::Choice(
+        Box::new(alloc, longer)?,
+        Box::new(alloc, Labelled::Token(2, 0))?,
+    );
+    assert_eq!(rt;
+        rows_of(alloc, &text, &part, (3, 5), 3)?.as_str(),
+        "3-4:39 3-4:93 3-5:39 4-5:49 4-5:94 "
+    );
+    assert_eq!(rt;
+        rows_of(alloc, &text, &part, (3, 5), 2)?.as_str(),
+        "too many at 3 4-5:49 4-5:94 "
+    );
+    Ok(())
+}
+
+/// A text of 140 tokens, of which the tests hold of 1, 130 and 131.
+fn long(alloc: Global) -> Result<Spots, NoMemory> {
+    let mut spots = Places::none(alloc, 3)?;
+    spots.insert(1);
+    spots.insert(130);
+    spots.insert(131);
+    Ok(Spots {
+        tokens: 140,
+        spots,
+        begin: 2,
+        end: 139,
+    })
+}
+
+/// The rows as text: the span, and the labels 1 and 2, of which 999 is none.
+fn written(alloc: Global, rows: &Rows) -> Result<String, NoMemory> {
+    let mut written = String::new(alloc);
+    for i in 0..rows.len() {
+        let row = rows.get(i);
+        write!(
+            &mut written,
+            "{}-{}:{},{} ",
+            row.span().begin(),
+            row.span().end(),
+            row.labels()[0].min(999),
+            row.labels()[1].min(999)
+        )
+        .map_err(|_| NoMemory)?;
+    }
+    Ok(written)
+}
+
+/// The rows of `1:[]? 2:[]` in a text, or that there are too many.
+fn rows_in(alloc: Global, text: &Spots, room: u32) -> Result<String, NoMemory> {
+    let automaton = Automaton::compile(alloc, &optional_then_one(alloc)?)?;
+    let mut work = Work::new(alloc);
+    let mut rows = Rows::new(alloc);
+    match automaton.rows_of_text(&mut work, text, 7, room, &mut rows) {
+        Ok(()) => written(alloc, &rows),
+        Err(EvalError::TooManyRows) => format!(in alloc; "too many").map_err(|_| NoMemory),
+        Err(EvalError::NoMemory) => Err(NoMemory),
+    }
+}
+
+#[test]
+fn rows_of_whole_texts(rt: HostRuntime) -> Result<(), Fail> {
+    let alloc = rt.alloc();
+    let short = six(alloc, 1, 4)?;
+    assert_eq!(rt;
+        rows_in(alloc, &short, 4)?.as_str(),
+        "1-2:999,1 3-4:999,3 3-5:3,4 4-5:999,4 "
+    );
+    assert_eq!(rt; rows_in(alloc, &short, 3)?.as_str(), "too many");
+    let text = long(alloc)?;
+    assert_eq!(rt;
+        rows_in(alloc, &text, 9)?.as_str(),
+        "1-2:999,1 130-131:999,130 130-132:130,131 131-132:999,131 "
+    );
+    Ok(())
+}
+
+#[test]
+fn rows_from_one_place(rt: HostRuntime) -> Result<(), Fail> {
+    let alloc = rt.alloc();
+    let text = long(alloc)?;
+    let automaton = Automaton::compile(alloc, &optional_then_one(alloc)?)?;
+    let mut work = Work::new(alloc);
+    let mut rows = Rows::new(alloc);
+    for (begin, room) in [(131, 1), (130, 2), (130, 1), (140, 0)] {
+        match automaton.rows_from(&mut work, &text, 7, begin, room, &mut rows) {
+            Ok(()) => {}
+            Err(EvalError::TooManyRows) => assert_eq!(rt; room, 1),
+            Err(EvalError::NoMemory) => return Err(Fail::from(NoMemory)),
+        }
+    }
+    assert_eq!(rt;
+        written(alloc, &rows)?.as_str(),
+        "131-132:999,131 130-131:999,130 130-132:130,131 "
     );
     Ok(())
 }

@@ -1,8 +1,9 @@
 //! What is asked of a text.
 
-ghost use Rattle.std.specs.Prelude.{◌≡◌, ℕ, ◌<◌, Some, IfSome};
+ghost use Rattle.std.specs.Prelude.{◌≡◌, ℕ, ◌<◌, ◌≤◌, max, Some, IfSome};
+ghost use Rattle.mt_text_spec.specs.Queries.{Any};
 ghost use Rattle.mt_places.specs.Places.{WordIs};
-ghost use Rattle.mt_automaton.specs.Parts.{Seen, Stands, Longer, HasAllInside};
+ghost use Rattle.mt_automaton.specs.Parts.{Seen, Stands, Lies, Longer, HasAllInside};
 
 use mt_places::Marks;
 
@@ -26,20 +27,25 @@ pub(crate) enum Way {
 pub trait View {
     ghost seen: { Self → Seen };
 
-    /// How many tokens it has.
+    /// How many tokens it has. Of each the test holds that asks nothing.
     fn tokens(&self) -> u32
         ensures is { result ≡ (seen self.now).text.tokens }
         ensures few { result < 4294967295 }
+        ensures any { (place : ℕ) → place < (seen self.now).text.tokens → (seen self.now).text.holds Any place }
         ensures inside { HasAllInside (seen self.now).text };
 
     /// At which of the 64 places from 64 * at on a mark stands, the lowest bit first.
     fn word(&self, mark: Mark, at: usize) -> u64
         ensures { WordIs (Stands (seen self.now) mark) at result };
 
-    /// Where the instance of a tag ends that begins at a place and has a token; no two of these begin at one place.
+    /// Where the instance of a tag ends that begins at a place, has a token, and ends in the text; no two of these begin at one place.
     fn whole_end(&self, tag: u32, at: u32) -> Option<u32>
         ensures some { IfSome result (λ end. Longer (seen self.now) tag at end) }
         ensures only { (end : ℕ) → Longer (seen self.now) tag at end → result ≡ Some end };
+
+    /// How far the instances of a tag lead that begin at a place or before: none ends behind the place and behind this one, in the text.
+    fn last_end(&self, tag: u32, at: u32) -> u32
+        ensures { (begin end : ℕ) → Lies (seen self.now) tag begin end → begin ≤ at → end ≤ (seen self.now).text.tokens → end ≤ max at result };
 }
 
 /// Where a mark stands in a text.
