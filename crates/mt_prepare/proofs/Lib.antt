@@ -1,0 +1,16 @@
+pub mod Sets
+pub mod Rows
+pub mod Listed
+pub mod Told
+pub mod Spans
+pub mod Words
+pub mod Entered
+pub mod Views
+pub mod Blamed
+pub mod Found
+pub mod Naming
+pub mod Readying
+pub mod Resolving
+pub mod Sights
+pub mod LastEnds
+pub mod Standing

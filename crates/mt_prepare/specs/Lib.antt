@@ -1,0 +1,9 @@
+pub mod Asks
+pub mod Built
+pub mod Judges
+pub mod Prepared
+pub mod Resolved
+pub mod TestRows
+pub mod TagRows
+pub mod Viewed
+pub mod Sighted

@@ -1,0 +1,274 @@
+//! Queries made ready for segments.
+
+ghost use Rattle.std.specs.Prelude.{◌≡◌, ◌+◌, ◌<◌, ◌≤◌, ◌++◌, ◌∷◌, [], List as Items, length, IfOk, IfErr, OnOk};
+ghost use Rattle.std.specs.List.{All, AllZip};
+ghost use Rattle.mt_text_spec.specs.Queries as q;
+ghost use Rattle.mt_query_spec.specs.Contents.{OfBegin, OfEnd, OfWhole, TagPlace, tags, token_tests};
+ghost use Rattle.mt_cql.specs.Shape.{test_shape, shape, filters_shape};
+ghost use Rattle.mt_eval_spec.specs.Told.{IsFor};
+ghost use Rattle.mt_eval_spec.specs.Asked.{test_patterns, expr_patterns, filters_patterns, query_patterns};
+ghost use Rattle.mt_eval_spec.specs.RowsIn.{operands};
+ghost use Rattle.mt_prepare.specs.Asks.{ExprStands, FiltersName, FiltersStand, HasAttr, HasKind, Names, NamesOnly, TestStands};
+ghost use Rattle.mt_prepare.specs.Built.{IsWhole, Blames};
+ghost use Rattle.mt_prepare.specs.Prepared.{AddsReady, IsReady, IsPrepared};
+
+use super::patterns::{PatternError, Patterns};
+use super::resolved::Resolved;
+use super::tags::{spans_of_kind, spans_of_tag};
+use super::tests_resolved::resolved_test;
+use mt_base::{List, NoMemory, Span, Steps};
+use mt_cql::{Expr, Filters, Query, Test};
+use mt_pattern::PatternShop;
+use mt_segment::Segment;
+use std::alloc::Global;
+use std::sync::ledger::Ledger;
+
+/// An expression made ready for a segment: its tests of tokens, and for each of its tags the spans in the segment, each from left to right.
+#[derive(Drop)]
+pub struct PreparedExpr {
+    pub tests: List<Resolved>,
+    pub tags: List<List<Span>>,
+}
+
+/// A query made ready for a segment: its head, and then the operands of its filters, each before those of its own filters.
+#[derive(Drop)]
+pub struct Prepared {
+    pub exprs: List<PreparedExpr>,
+}
+
+/// Makes a query ready for a segment: builds its patterns, up to the first one that is not built, and asks them.
+pub fn prepare<P: PatternShop, L: Ledger>(
+    alloc: Global,
+    query: &Query,
+    segment: &Segment,
+    shop: &mut P,
+    steps: &mut Steps<L>,
+) -> Result<Prepared, PatternError>
+    requires { IsFor segment.now query.now }
+    ensures prepared { IfOk result (λ prepared. IsPrepared segment.now query.now prepared) }
+    ensures patterns { OnOk result (All IsWhole (query_patterns query.now)) }
+    ensures blames { IfErr result (Blames 1 (query_patterns query.now) (P.refused shop.old) (P.refused shop.new)) }
+    ensures kept { OnOk result (P.refused shop.new ≡ P.refused shop.old) }
+    ensures rises { steps.old ≤ steps.new }
+{
+    let mut patterns = Patterns::<P>::build(alloc, query, shop)?;
+    match patterns.prepare(alloc, query, segment, shop, steps) {
+        Ok(prepared) => Ok(prepared),
+        Err(_) => Err(PatternError::NoMemory),
+    }
+}
+
+impl<P: PatternShop> Patterns<P> {
+    /// Makes the query of these patterns ready for a segment.
+    pub fn prepare<L: Ledger>(
+        &mut self,
+        alloc: Global,
+        query: &Query,
+        segment: &Segment,
+        shop: &mut P,
+        steps: &mut Steps<L>,
+    ) -> Result<Prepared, NoMemory>
+        requires query { IsFor segment.now query.now }
+        requires patterns { self.old ≡ query_patterns query.now }
+        ensures prepared { IfOk result (λ prepared. IsPrepared segment.now query.now prepared) }
+        ensures texts { self.new ≡ self.old }
+        ensures kept { P.refused shop.new ≡ P.refused shop.old }
+        ensures rises { steps.old ≤ steps.new }
+    {
+        let mut asked = 0;
+        let mut exprs = List::new(alloc);
+        let head = ready(alloc, segment, query.head(), self, &mut asked, shop, steps)?;
+        exprs.push(head)?;
+        add_operands(
+            alloc,
+            segment,
+            query.filters(),
+            self,
+            &mut asked,
+            shop,
+            steps,
+            &mut exprs,
+        )?;
+        Ok(Prepared { exprs })
+    }
+}
+
+/// Makes the operands of filters ready and adds them. Their patterns are the next ones of the query, behind those that were asked.
+fn add_operands<P: PatternShop, L: Ledger>(
+    alloc: Global,
+    segment: &Segment,
+    filters: &Filters,
+    patterns: &mut Patterns<P>,
+    asked: &mut usize,
+    shop: &mut P,
+    steps: &mut Steps<L>,
+    exprs: &mut List<PreparedExpr>,
+) -> Result<(), NoMemory>
+    requires known { FiltersName (HasAttr segment.now) (HasKind segment.now) (filters_shape filters.now) }
+    requires stands { FiltersStand patterns.old asked.old (filters_shape filters.now) }
+    ensures ready { OnOk result ((before : Items q.Expr) → AllZip (IsReady segment.now) before exprs.old → AllZip (IsReady segment.now) (before ++ operands (filters_shape filters.now)) exprs.new) }
+    ensures asked { OnOk result (asked.new ≡ asked.old + length (filters_patterns (filters_shape filters.now))) }
+    ensures texts { patterns.new ≡ patterns.old }
+    ensures kept { P.refused shop.new ≡ P.refused shop.old }
+    ensures rises { steps.old ≤ steps.new }
+{
+    match filters {
+        Filters::End => Ok(()),
+        Filters::More(filter, others) => {
+            let head = ready(alloc, segment, &filter.head, patterns, asked, shop, steps)?;
+            exprs.push(head)?;
+            add_operands(
+                alloc,
+                segment,
+                &filter.filters,
+                patterns,
+                asked,
+                shop,
+                steps,
+                exprs,
+            )?;
+            add_operands(alloc, segment, others, patterns, asked, shop, steps, exprs)
+        }
+    }
+}
+
+/// Makes an expression ready. Its patterns are the next ones of the query, behind those that were asked.
+fn ready<P: PatternShop, L: Ledger>(
+    alloc: Global,
+    segment: &Segment,
+    expr: &Expr,
+    patterns: &mut Patterns<P>,
+    asked: &mut usize,
+    shop: &mut P,
+    steps: &mut Steps<L>,
+) -> Result<PreparedExpr, NoMemory>
+    requires known { Names (HasAttr segment.now) (HasKind segment.now) (shape expr.now) }
+    requires stands { ExprStands patterns.old asked.old (shape expr.now) }
+    ensures ready { IfOk result (λ ready. IsReady segment.now (shape expr.now) ready) }
+    ensures asked { OnOk result (asked.new ≡ asked.old + length (expr_patterns (shape expr.now))) }
+    ensures texts { patterns.new ≡ patterns.old }
+    ensures kept { P.refused shop.new ≡ P.refused shop.old }
+    ensures rises { steps.old ≤ steps.new }
+{
+    let mut ready = PreparedExpr {
+        tests: List::new(alloc),
+        tags: List::new(alloc),
+    };
+    add_expr(
+        alloc, segment, expr, patterns, asked, shop, steps, &mut ready,
+    )?;
+    Ok(ready)
+}
+
+/// Adds the tests and the tags of an expression.
+fn add_expr<P: PatternShop, L: Ledger>(
+    alloc: Global,
+    segment: &Segment,
+    expr: &Expr,
+    patterns: &mut Patterns<P>,
+    asked: &mut usize,
+    shop: &mut P,
+    steps: &mut Steps<L>,
+    ready: &mut PreparedExpr,
+) -> Result<(), NoMemory>
+    requires known { Names (HasAttr segment.now) (HasKind segment.now) (shape expr.now) }
+    requires stands { ExprStands patterns.old asked.old (shape expr.now) }
+    ensures ready { OnOk result (AddsReady segment.now (token_tests (shape expr.now)) (tags (shape expr.now)) ready.old ready.new) }
+    ensures asked { OnOk result (asked.new ≡ asked.old + length (expr_patterns (shape expr.now))) }
+    ensures texts { patterns.new ≡ patterns.old }
+    ensures kept { P.refused shop.new ≡ P.refused shop.old }
+    ensures rises { steps.old ≤ steps.new }
+{
+    match expr {
+        Expr::Token { label: _, test } => {
+            add_test(alloc, segment, test, patterns, asked, shop, steps, ready)
+        }
+        Expr::Begin { kind, test } => {
+            add_tag(
+                alloc, segment, *kind, test, patterns, asked, shop, steps, ready,
+            )
+        }
+        Expr::End { kind } => add_end(alloc, segment, *kind, steps, ready),
+        Expr::Whole { kind, test } => {
+            add_tag(
+                alloc, segment, *kind, test, patterns, asked, shop, steps, ready,
+            )
+        }
+        Expr::Seq(left, right) => {
+            add_expr(alloc, segment, left, patterns, asked, shop, steps, ready)?;
+            add_expr(alloc, segment, right, patterns, asked, shop, steps, ready)
+        }
+        Expr::Choice(left, right) => {
+            add_expr(alloc, segment, left, patterns, asked, shop, steps, ready)?;
+            add_expr(alloc, segment, right, patterns, asked, shop, steps, ready)
+        }
+        Expr::Repeat {
+            inner,
+            least: _,
+            most: _,
+        } => add_expr(alloc, segment, inner, patterns, asked, shop, steps, ready),
+    }
+}
+
+/// Adds a test of tokens.
+fn add_test<P: PatternShop, L: Ledger>(
+    alloc: Global,
+    segment: &Segment,
+    test: &Test,
+    patterns: &mut Patterns<P>,
+    asked: &mut usize,
+    shop: &mut P,
+    steps: &mut Steps<L>,
+    ready: &mut PreparedExpr,
+) -> Result<(), NoMemory>
+    requires known { NamesOnly (HasAttr segment.now) (test_shape test.now) }
+    requires stands { TestStands patterns.old asked.old (test_shape test.now) }
+    ensures ready { OnOk result (AddsReady segment.now (test_shape test.now ∷ []) [] ready.old ready.new) }
+    ensures asked { OnOk result (asked.new ≡ asked.old + length (test_patterns (test_shape test.now))) }
+    ensures texts { patterns.new ≡ patterns.old }
+    ensures kept { P.refused shop.new ≡ P.refused shop.old }
+    ensures rises { steps.old ≤ steps.new }
+{
+    let resolved = resolved_test(alloc, segment, test, patterns, asked, shop, steps)?;
+    ready.tests.push(resolved)
+}
+
+/// Adds the spans of a tag with a test.
+fn add_tag<P: PatternShop, L: Ledger>(
+    alloc: Global,
+    segment: &Segment,
+    kind: u16,
+    test: &Test,
+    patterns: &mut Patterns<P>,
+    asked: &mut usize,
+    shop: &mut P,
+    steps: &mut Steps<L>,
+    ready: &mut PreparedExpr,
+) -> Result<(), NoMemory>
+    requires known { HasKind segment.now kind }
+    requires stands { TestStands patterns.old asked.old (test_shape test.now) }
+    ensures ready { OnOk result ((place : TagPlace) → AddsReady segment.now [] (record { place = place; kind = kind; test = test_shape test.now } ∷ []) ready.old ready.new) }
+    ensures asked { OnOk result (asked.new ≡ asked.old + length (test_patterns (test_shape test.now))) }
+    ensures texts { patterns.new ≡ patterns.old }
+    ensures kept { P.refused shop.new ≡ P.refused shop.old }
+    ensures rises { steps.old ≤ steps.new }
+{
+    let spans = spans_of_tag(alloc, segment, kind, test, patterns, asked, shop, steps)?;
+    ready.tags.push(spans)
+}
+
+/// Adds the spans of a closing tag.
+fn add_end<L: Ledger>(
+    alloc: Global,
+    segment: &Segment,
+    kind: u16,
+    steps: &mut Steps<L>,
+    ready: &mut PreparedExpr,
+) -> Result<(), NoMemory>
+    requires { HasKind segment.now kind }
+    ensures ready { OnOk result ((place : TagPlace) → AddsReady segment.now [] (record { place = place; kind = kind; test = q.Any } ∷ []) ready.old ready.new) }
+    ensures rises { steps.old ≤ steps.new }
+{
+    let spans = spans_of_kind(alloc, segment, kind, steps)?;
+    ready.tags.push(spans)
+}

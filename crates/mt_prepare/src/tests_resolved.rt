@@ -1,0 +1,119 @@
+//! Tests of tokens resolved in a segment.
+
+ghost use Rattle.std.specs.Prelude.{◌≡◌, ◌+◌, ◌<◌, ◌≤◌, length, IfOk, OnOk};
+ghost use Rattle.mt_text_spec.specs.Queries as q;
+ghost use Rattle.mt_cql.specs.Shape.{test_shape};
+ghost use Rattle.mt_eval_spec.specs.Asked.{test_patterns};
+ghost use Rattle.mt_prepare.specs.Asks.{Answers, HasAttr, NamesOnly, StandsAt, TestStands};
+ghost use Rattle.mt_prepare.specs.Resolved.{Resolves};
+ghost use Rattle.mt_prepare.specs.TestRows.{HasAttrs};
+
+use super::patterns::Patterns;
+use super::resolved::Resolved;
+use mt_base::{NoMemory, Steps, Value};
+use mt_cql::Test;
+use mt_pattern::{IdSet, PatternShop};
+use mt_segment::Segment;
+use mt_segment_laws::tables_are_whole;
+use std::alloc::Global;
+use std::sync::ledger::Ledger;
+
+/// A test of tokens in a segment. Its patterns are the next ones of the query, behind those that were asked.
+pub(crate) fn resolved_test<P: PatternShop, L: Ledger>(
+    alloc: Global,
+    segment: &Segment,
+    test: &Test,
+    patterns: &mut Patterns<P>,
+    asked: &mut usize,
+    shop: &mut P,
+    steps: &mut Steps<L>,
+) -> Result<Resolved, NoMemory>
+    requires known { NamesOnly (HasAttr segment.now) (test_shape test.now) }
+    requires stands { TestStands patterns.old asked.old (test_shape test.now) }
+    ensures resolves { IfOk result (λ resolved. Resolves segment.now (test_shape test.now) resolved) }
+    ensures attrs { IfOk result (λ resolved. HasAttrs segment.now resolved) }
+    ensures asked { OnOk result (asked.new ≡ asked.old + length (test_patterns (test_shape test.now))) }
+    ensures texts { patterns.new ≡ patterns.old }
+    ensures kept { P.refused shop.new ≡ P.refused shop.old }
+    ensures rises { steps.old ≤ steps.new }
+{
+    match test {
+        Test::Any => Ok(Resolved::Any),
+        Test::Pattern { attr, text, not } => {
+            resolved_pattern(alloc, segment, *attr, text, *not, patterns, asked, shop)
+        }
+        Test::Literal { attr, text, not } => {
+            Ok(resolved_literal(segment, *attr, text, *not, steps))
+        }
+        Test::Not(inner) => {
+            let inner = resolved_test(alloc, segment, inner, patterns, asked, shop, steps)?;
+            Ok(Resolved::Not(Box::new(alloc, inner)?))
+        }
+        Test::Both(left, right) => {
+            let left = resolved_test(alloc, segment, left, patterns, asked, shop, steps)?;
+            let right = resolved_test(alloc, segment, right, patterns, asked, shop, steps)?;
+            Ok(Resolved::Both(Box::new(alloc, left)?, Box::new(alloc, right)?))
+        }
+        Test::Either(left, right) => {
+            let left = resolved_test(alloc, segment, left, patterns, asked, shop, steps)?;
+            let right = resolved_test(alloc, segment, right, patterns, asked, shop, steps)?;
+            Ok(Resolved::Either(Box::new(alloc, left)?, Box::new(alloc, right)?))
+        }
+    }
+}
+
+/// A pattern by the numbers of the values that it accepts: it is the next one of the query.
+fn resolved_pattern<P: PatternShop>(
+    alloc: Global,
+    segment: &Segment,
+    attr: u16,
+    text: &Value,
+    not: bool,
+    patterns: &mut Patterns<P>,
+    asked: &mut usize,
+    shop: &mut P,
+) -> Result<Resolved, NoMemory>
+    requires known { attr < length segment.now.attrs }
+    requires stands { StandsAt patterns.old asked.old text.now }
+    ensures resolves { IfOk result (λ resolved. Resolves segment.now (q.Pattern attr text.now not) resolved) }
+    ensures attrs { IfOk result (λ resolved. HasAttrs segment.now resolved) }
+    ensures asked { OnOk result (asked.new ≡ asked.old + 1) }
+    ensures texts { patterns.new ≡ patterns.old }
+    ensures kept { P.refused shop.new ≡ P.refused shop.old }
+{
+    let ids = patterns.next_ids(alloc, asked, segment.lexicon(attr), shop)?;
+    Ok(accepted(segment, attr, text, ids, not))
+}
+
+/// A pattern by the set of those numbers.
+fn accepted(segment: &Segment, attr: u16, text: &Value, ids: IdSet, not: bool) -> Resolved
+    requires known { attr < length segment.now.attrs }
+    requires answered { Answers segment.now attr text.now ids }
+    ensures resolves { Resolves segment.now (q.Pattern attr text.now not) result }
+    ensures attrs { HasAttrs segment.now result }
+{
+    tables_are_whole();
+    let _valid = segment.texts();
+    Resolved::Some { attr, ids, not }
+}
+
+/// A literal by the number of its value.
+fn resolved_literal<L: Ledger>(
+    segment: &Segment,
+    attr: u16,
+    text: &Value,
+    not: bool,
+    steps: &mut Steps<L>,
+) -> Resolved
+    requires known { attr < length segment.now.attrs }
+    ensures resolves { Resolves segment.now (q.Literal attr text.now not) result }
+    ensures attrs { HasAttrs segment.now result }
+    ensures rises { steps.old ≤ steps.new }
+{
+    tables_are_whole();
+    let _valid = segment.texts();
+    let lexicon = segment.lexicon(attr);
+    let _ascending = lexicon.len();
+    let id = lexicon.find(text.as_str(), steps);
+    Resolved::One { attr, id, not }
+}
