@@ -1,0 +1,10 @@
+pub mod Labels
+pub mod Values
+pub mod Marks
+pub mod Rooms
+pub mod Filtered
+pub mod Queries
+pub mod Behind
+pub mod Exprs
+pub mod Found
+pub mod Names

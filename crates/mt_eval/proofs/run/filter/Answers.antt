@@ -1,0 +1,13 @@
+use Rattle.mt_eval.proofs.run.filter.Goals as goal
+
+pub returns-in-Within : goal.returns-in-Within
+returns-in-Within c = rw c.in-Within.is c.keep_within.ensures.ok
+
+pub returns-in-NotWithin : goal.returns-in-NotWithin
+returns-in-NotWithin c = rw c.in-NotWithin.is c.keep_within-in-NotWithin.ensures.ok
+
+pub returns-in-Containing : goal.returns-in-Containing
+returns-in-Containing c = rw c.in-Containing.is c.keep_containing.ensures.ok
+
+pub returns-in-NotContaining : goal.returns-in-NotContaining
+returns-in-NotContaining c = rw c.in-NotContaining.is c.keep_containing-in-NotContaining.ensures.ok

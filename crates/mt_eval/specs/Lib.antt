@@ -1,0 +1,3 @@
+pub mod Conds
+pub mod Runs
+pub mod Rooms

@@ -1,0 +1,120 @@
+//! Conditions on the labels of rows.
+
+ghost use Rattle.std.specs.Prelude.{◌≡◌, ℕ, ◌+◌, ◌<◌, length, Decides, IfSome, IfNone, OnOk};
+ghost use Rattle.std.specs.List.{All, AllZip};
+ghost use Rattle.mt_text_spec.specs.Texts as spec;
+ghost use Rattle.mt_match_spec.specs.Labels.{IsSetTo};
+ghost use Rattle.mt_segment_spec.specs.Tables.{token_count};
+ghost use Rattle.mt_eval_spec.specs.Told.{told_value};
+ghost use Rattle.mt_eval_spec.specs.RowsIn.{MeetsIn};
+ghost use Rattle.mt_eval.specs.Conds.{AreFor, IsFor, StandsIn};
+ghost use Rattle.mt_rows.specs.Marks.{Tell};
+
+use mt_base::{NoMemory, Row, Steps};
+use mt_cql::Cond;
+use mt_rows::RowList;
+use mt_segment::Segment;
+use mt_segment_laws::tables_are_whole;
+use std::sync::ledger::Ledger;
+
+/// The place of a label, where it is set.
+fn place_of(row: &Row, label: u8) -> Option<u32>
+    ensures some { IfSome result (λ place. IsSetTo row.now.labels label place) }
+    ensures none { IfNone result ((place : ℕ) → ¬ IsSetTo row.now.labels label place) }
+{
+    if label == 0 {
+        return None;
+    }
+    match row.labels().get(label as usize - 1) {
+        None => None,
+        Some(place) => {
+            if *place == Row::UNSET {
+                None
+            } else {
+                Some(*place)
+            }
+        }
+    }
+}
+
+/// Whether the values at two places are equal: their numbers are compared where the attributes are one, else the values themselves.
+fn are_same<L: Ledger>(
+    segment: &Segment,
+    left_attr: u16,
+    left: u32,
+    right_attr: u16,
+    right: u32,
+    steps: &mut Steps<L>,
+) -> bool
+    requires left_attr { left_attr < length segment.now.attrs }
+    requires left { left < token_count segment.now }
+    requires right_attr { right_attr < length segment.now.attrs }
+    requires right { right < token_count segment.now }
+    ensures { Decides result (told_value segment.now left_attr left ≡ told_value segment.now right_attr right) }
+{
+    let one = segment.value_id(left_attr, left, steps);
+    let other = segment.value_id(right_attr, right, steps);
+    if left_attr == right_attr {
+        segment.lexicon(left_attr).len();
+        return one == other;
+    }
+    segment.lexicon(left_attr).value(one) == segment.lexicon(right_attr).value(other)
+}
+
+/// Whether a row meets a condition.
+fn meets<L: Ledger>(segment: &Segment, row: &Row, cond: &Cond, steps: &mut Steps<L>) -> bool
+    requires row { StandsIn segment.now row.now }
+    requires cond { IsFor segment.now cond.now }
+    ensures { Decides result (MeetsIn segment.now row.now cond.now) }
+{
+    let (first, _) = segment.text_bounds(row.span().text());
+    let Some(left) = place_of(row, cond.left) else {
+        return false;
+    };
+    let Some(right) = place_of(row, cond.right) else {
+        return false;
+    };
+    let same = are_same(
+        segment,
+        cond.left_attr,
+        first + left,
+        cond.right_attr,
+        first + right,
+        steps,
+    );
+    if cond.equal { same } else { !same }
+}
+
+/// Whether a row meets all conditions.
+fn meets_all<L: Ledger>(segment: &Segment, row: &Row, conds: &[Cond], steps: &mut Steps<L>) -> bool
+    requires row { StandsIn segment.now row.now }
+    requires conds { AreFor segment.now conds.now }
+    ensures { Decides result (All (MeetsIn segment.now row.now) conds.now) }
+{
+    for cond in conds {
+        if !meets(segment, row, cond, steps) {
+            return false;
+        }
+    }
+    true
+}
+
+/// Marks the rows that meet all conditions.
+pub(crate) fn mark_met<L: Ledger>(
+    marks: &mut Vec<bool>,
+    segment: &Segment,
+    rows: &RowList,
+    conds: &[Cond],
+    steps: &mut Steps<L>,
+) -> Result<(), NoMemory>
+    requires rows { All (StandsIn segment.now) rows.now }
+    requires conds { AreFor segment.now conds.now }
+    ensures { OnOk result (Tell (λ row. All (MeetsIn segment.now row) conds.now) rows.now marks.new.items) }
+{
+    marks.clear();
+    for i in 0..rows.len() {
+        let row = rows.get(i);
+        marks.push(meets_all(segment, &row, conds, steps))?;
+    }
+    Ok(())
+}

@@ -1,0 +1,54 @@
+//! The rows that a query keeps in texts of a segment: the rows of its head and of its operands, one text after another, as far as there is room; its filters, each by
+//! one sweep; and its conditions.
+//!
+//! A query is made ready for a segment by `prepare` of `mt_prepare`, which builds its patterns; `eval` then asks no shop.
+#![tactic(auto)]
+
+ghost use Rattle.std.specs.Prelude.{◌≡◌, length, IfOk, OnOk, IsErrOf};
+ghost use Rattle.mt_prepare.specs.Prepared.{IsPrepared};
+ghost use Rattle.mt_eval_spec.specs.Told.{IsFor};
+ghost use Rattle.mt_eval_spec.specs.RowsIn.{EachLeaves, KeptIn, SomePasses, heads};
+ghost use Rattle.mt_eval.specs.Runs.{AreTexts};
+
+mod conds;
+mod finding;
+mod kept;
+mod run;
+
+use finding::Asked;
+use kept::kept_rows;
+use mt_base::{List, Steps};
+use mt_cql::Query;
+pub use mt_prepare::{PatternError, Patterns, Prepared, check, prepare};
+pub use mt_rows::{EvalError, RowList};
+use mt_segment::Segment;
+use std::alloc::Global;
+use std::sync::ledger::Ledger;
+
+/// The rows that a query keeps in the texts with these numbers, ascending and numbered in the segment. There is a room for the head and then one for each operand, in
+/// the order of `prepare`: how many rows each may have, before filters and conditions. Each is lowered by the rows that it has; after an error the rooms are unknown.
+pub fn eval<L: Ledger>(
+    alloc: Global,
+    query: &Query,
+    prepared: &Prepared,
+    segment: &Segment,
+    texts: &List<u32>,
+    rooms: &mut List<u32>,
+    steps: &mut Steps<L>,
+) -> Result<RowList, EvalError>
+    requires query { IsFor segment.now query.now }
+    requires prepared { IsPrepared segment.now query.now prepared.now }
+    requires texts { AreTexts segment.now texts.now }
+    requires rooms { length rooms.old ≡ length (heads query.now) }
+    ensures kept { IfOk result (λ rows. KeptIn segment.now texts.now query.now rows) }
+    ensures rooms { OnOk result (EachLeaves segment.now texts.now (heads query.now) 0 rooms.old rooms.new) }
+    ensures too_many { IsErrOf result EvalError.TooManyRows → SomePasses segment.now texts.now (heads query.now) 0 rooms.old }
+{
+    let asked = Asked {
+        query,
+        prepared,
+        segment,
+        texts: texts.as_slice(),
+    };
+    kept_rows(alloc, &asked, rooms, steps)
+}
