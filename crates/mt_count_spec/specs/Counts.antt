@@ -31,6 +31,7 @@ pub data CountsTwo (images : Images) (registry : Registry) (text : Text) (name :
   IsTwo : (p q : ℕ) → IsAsked x (value_at images registry text registry.ws_attr p) → IsAsked y (value_at images registry text registry.ws_attr q) →
       CountsTwo images registry text name x y (AtTwo name p q)
 
+-- the place of an instance of this final name has the value that is asked for
 pub data CountsOne (images : Images) (registry : Registry) (text : Text) (name : List ℕ) (x : Option (List ℕ)) : Instance → Type 0 where
   IsOne : (p : ℕ) → IsAsked x (value_at images registry text registry.ws_attr p) → CountsOne images registry text name x (AtOne name p)
 

@@ -11,6 +11,7 @@ generate_line number = codes "generate d" ++ decimal number ++ codes " " ++ deci
 abbrev pub grammar_lines : List (List ℕ)
 grammar_lines = codes "rules 3" ∷ codes "*DUAL" ∷ codes "=modifier/modifies" ∷ codes "2:[tag=\"J\"] 1:[tag=\"N\"]" ∷ []
 
+-- a sketch and a thesaurus of the lemma of rank 0
 abbrev pub word_lines : List (List ℕ)
 word_lines = codes "sketch 2 5 l0" ∷ codes "thes 5 l0" ∷ []
 
@@ -23,5 +24,6 @@ abbrev pub demo_lines : ℕ → List (List ℕ)
 demo_lines texts =
     map generate_line (range_with_len 1 texts) ++ grammar_lines ++ codes "segments" ∷ codes "count [tag=\"J\"] [tag=\"N\"]" ∷ word_lines ++ merge_lines texts ++ word_lines ++ codes "segments" ∷ codes "quit" ∷ []
 
+-- the bytes of the script, each line with its line feed
 abbrev pub demo_script : ℕ → List ℕ
 demo_script texts = flat_map closed (demo_lines texts)

@@ -48,6 +48,7 @@ sentence_count tokens = (tokens + 9) / 10
 abbrev pub sentence_begin : ℕ → ℕ
 sentence_begin number = 10 * number
 
+-- the place at which the sentence of this number ends
 abbrev pub sentence_end : ℕ → ℕ → ℕ
 sentence_end tokens number = min (10 * number + 10) tokens
 
@@ -57,9 +58,11 @@ sentence_end tokens number = min (10 * number + 10) tokens
 abbrev pub document : List ℕ → ℕ → StructSpan
 document name tokens = record { kind = 0; begin = 0; end = tokens; values = name ∷ [] }
 
+-- the sentence of this number
 abbrev pub sentence : ℕ → ℕ → StructSpan
 sentence tokens number = record { kind = 1; begin = sentence_begin number; end = sentence_end tokens number; values = [] }
 
+-- the text of a name, a seed and a number of tokens: one document, cut into sentences
 abbrev pub generated_text : List ℕ → ℕ → ℕ → Text
 generated_text name seed tokens = record {
   name = name;

@@ -34,6 +34,7 @@ abbrev pub kind_waiting : Option RelationKind → RelationKind
 kind_waiting None = Plain
 kind_waiting (Some kind) = kind
 
+-- what stands before the next line where this one is a directive
 abbrev pub directed : Registry → Before → Directive → Before
 directed registry before (OfKind kind) = record before { pending = Some kind }
 directed registry before (DefaultAttr name) = record before { default = place_of name (attr_names registry.attrs) }
@@ -53,11 +54,13 @@ pub record Line : Type 0 where
   pub text : List ℕ
   pub before : Before
 
+-- these lines in their places, from the number and the state before the first of them on
 abbrev pub lines_from : Registry → ℕ → Before → List (List ℕ) → List Line
 lines_from registry number before [] = []
 lines_from registry number before (text ∷ texts) =
     record { number = number; text = text; before = before } ∷ lines_from registry (number + 1) (behind registry before (form_of text)) texts
 
+-- the lines of a file in their places
 abbrev pub lines_of : Registry → List ℕ → List Line
 lines_of registry bytes = lines_from registry 1 at_top (lines bytes)
 
@@ -77,6 +80,7 @@ pub record HasMark (heading : List ℕ) : Type 0 where
 abbrev pub first_name : List ℕ → List ℕ
 first_name heading = take (position_or_len (λ b. b == 47) heading) heading
 
+-- what stands behind the first `/`
 abbrev pub second_name : List ℕ → List ℕ
 second_name heading = drop (position_or_len (λ b. b == 47) heading + 1) heading
 
@@ -111,6 +115,7 @@ pub record LacksLabel (kind : RelationKind) (query : Query) : Type 0 where
 
 -- ## Causes
 
+-- why a line refuses a grammar
 pub data GrammarCause : Type 0 where
   NotUtf8 : GrammarCause
   NoDirective : GrammarCause
@@ -138,6 +143,7 @@ rank NoLabel = 8
 abbrev pub headings_limit : ℕ
 headings_limit = 256
 
+-- the most queries of a file
 abbrev pub grammar_queries_limit : ℕ
 grammar_queries_limit = 1024
 

@@ -19,6 +19,7 @@ pub data Form : Type 0 where
   Heads : (heading : List ℕ) → Form
   Asks : (text : List ℕ) → Form
 
+-- a byte that is no blank
 abbrev is_no_blank : ℕ → Bool
 is_no_blank b = not (is_blank b)
 
@@ -50,5 +51,6 @@ bare_form (first ∷ rest) =
     else if first == 61 then Heads rest
     else Asks (first ∷ rest)
 
+-- what a line is by itself
 unfoldable pub form_of : List ℕ → Form
 form_of line = bare_form (trimmed line)

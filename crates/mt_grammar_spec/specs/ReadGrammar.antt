@@ -19,12 +19,14 @@ abbrev pub limited : Option ℕ → Query → Query
 limited None query = query
 limited (Some kind) query = record query { filters = filter_behind query.filters (More Within (Whole kind Any) NoMore NoMore) }
 
+-- whether a line is a heading
 abbrev pub is_heading : Form → Bool
 is_heading Skipped = false
 is_heading (Directs directive) = false
 is_heading (Heads heading) = true
 is_heading (Asks text) = false
 
+-- whether a line is a query
 abbrev pub is_query : Form → Bool
 is_query Skipped = false
 is_query (Directs directive) = false
@@ -35,6 +37,7 @@ is_query (Asks text) = true
 abbrev pub heading_lines : List Line → List Line
 heading_lines all = filter (λ line. is_heading (form_of line.text)) all
 
+-- the lines that are queries of the heading with this number, from 1
 abbrev pub query_lines : List Line → ℕ → List Line
 query_lines all number = filter (λ line. is_query (form_of line.text)) (filter (λ line. line.before.headings == number) all)
 
@@ -61,6 +64,7 @@ name_by Symmetric heading = heading
 name_by Trinary heading = heading
 name_by Unary heading = heading
 
+-- the second name of a relation, which only a dual one has
 abbrev pub second_by : RelationKind → List ℕ → List ℕ
 second_by Plain heading = []
 second_by Dual heading = second_name heading
@@ -77,6 +81,7 @@ pub record IsRelationOf (registry : Registry) (file : List Line) (line : Line) (
   pub second : relation.second ≡ second_by relation.kind heading
   pub queries : AreQueries registry (query_lines file (line.before.headings + 1)) relation.queries
 
+-- each of these headings in turn begins the relation beside it
 pub data AreRelations (registry : Registry) (file : List Line) : List Line → List Relation → Type 0 where
   NoRelations : AreRelations registry file [] []
   ThenRelation : (line : Line) (all : List Line) (relation : Relation) (relations : List Relation) → IsRelationOf registry file line relation → AreRelations registry file all relations →

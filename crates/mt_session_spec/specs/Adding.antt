@@ -25,9 +25,11 @@ pub record IsTooMuch (held : Held) (name : List ℕ) (Given : List ℕ → Type 
   pub read : Vertical held.registry name bytes text
   pub full : IsFull held.groups (length text.tokens)
 
+-- the name of a new text is free
 abbrev pub name_checks : Held → List ℕ → List Check
 name_checks held name = When (Holds held name) (NameTaken name) ∷ []
 
+-- the bytes are a text, and there is room for it
 abbrev pub text_checks : Held → List ℕ → (List ℕ → Type 0) → List Check
 text_checks held name Given = IsNoText held.registry Given ∷ When (IsTooMuch held name Given) CorpusFull ∷ []
 
@@ -42,6 +44,7 @@ pub record AddsText (world : World) (name : List ℕ) (Given : List ℕ → Type
 
 -- ## The commands
 
+-- `text`: the lines behind the command are the text of this name
 abbrev pub texting : World → List ℕ → List ℕ → Meaning
 texting world name body = record {
   checks = name_checks world.held name ++ text_checks world.held name (λ bytes. bytes ≡ body);
@@ -49,6 +52,7 @@ texting world name body = record {
   Excepts = Exception world LoadsNone;
 }
 
+-- `add`: the file is the text of this name
 abbrev pub adding : World → List ℕ → List ℕ → Meaning
 adding world name file = record {
   checks = name_checks world.held name ++ file_checks world.files file ++ text_checks world.held name (IsFile world.files file);

@@ -11,6 +11,7 @@ pub data Answer : Type 0 where
   -- accepted, in this line, and the run ends with it
   Last : (line : List ℕ) → Answer
 
+-- the lines of an answer, without their line feeds
 abbrev pub lines_of : Answer → List (List ℕ)
 lines_of (Refused line) = line ∷ []
 lines_of (Lines lines) = lines

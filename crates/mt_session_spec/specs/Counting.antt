@@ -41,6 +41,7 @@ pub record Counts (held : Held) (cql : List ℕ) (lines : List (List ℕ)) : Typ
   pub named : slice_get (attr_names held.registry.attrs) number ≡ Some name
   pub says : lines ≡ (codes "= " ++ decimal (occurrences (corpus_of held.groups) (column_of held.registry.attrs number) value)) ∷ []
 
+-- `count`: the query has this form, its name is declared, and the reply is the number
 abbrev pub counting : Held → List ℕ → Question
 counting held cql = record {
   checks = When (IsNoLiteral cql) BadCommand ∷ IsUndeclared held cql ∷ [];

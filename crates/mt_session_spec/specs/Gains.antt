@@ -6,6 +6,7 @@ pub record Gained : Type 0 where
   pub failed : List (List ℕ)
   pub refused : List (List ℕ)
 
+-- no call failed
 abbrev pub none_gained : Gained
 none_gained = record { failed = []; refused = [] }
 

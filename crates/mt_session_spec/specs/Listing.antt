@@ -14,9 +14,11 @@ group_line group = decimal (length (live_texts group)) ++ 32 ∷ decimal (total_
 abbrev pub group_lines : List Group → List (List ℕ)
 group_lines groups = (codes "= " ++ decimal (length groups)) ∷ map group_line groups
 
+-- the groups are listed, and nothing changes
 pub record ListsGroups (world new : World) (answer : Answer) : Type 0 where
   pub same : new ≡ world
   pub says : answer ≡ Lines (group_lines world.held.groups)
 
+-- `segments`: no check, and the list is the reply
 abbrev pub listing : World → Meaning
 listing world = record { checks = []; Accepts = ListsGroups world; Excepts = Exception world LoadsNone }

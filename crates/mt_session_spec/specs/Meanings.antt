@@ -9,6 +9,7 @@ use Rattle.mt_session_spec.specs.Counting.{counting}
 use Rattle.mt_session_spec.specs.Listing.{listing}
 use Rattle.mt_session_spec.specs.Quitting.{quitting}
 
+-- what a question means where this is held
 abbrev pub question : Setting → Held → Ask → Question
 question setting held (Count cql) = counting held cql
 question setting held (Query cql) = unbuilt_question
@@ -17,6 +18,7 @@ question setting held (Colloc attr first last least cql) = unbuilt_question
 question setting held (Sketch least most lemma) = unbuilt_question
 question setting held (Thes most lemma) = unbuilt_question
 
+-- what a command means in a world
 abbrev pub meaning : Setting → World → Command → Meaning
 meaning setting world (Registry file) = registering setting world file
 meaning setting world (Text name body) = texting world name body

@@ -14,6 +14,7 @@ use Rattle.mt_session_spec.specs.Meaning.{Meaning, Exception, LoadsBehind}
 abbrev pub IsLate : Held → Type 0
 IsLate held = (held.accepted ≡ true) ⊎ ((corpus_of held.groups ≢ []) ⊎ (held.grammar ≢ None))
 
+-- what is asked before the file is loaded
 abbrev pub registry_front : World → List Check
 registry_front world = When (IsLate world.held) RegistryLate ∷ []
 
@@ -27,6 +28,7 @@ pub data IsNoRegistry (setting : Setting) (world : World) (file : List ℕ) : Re
 abbrev pub with_registry : Held → Registry → Held
 with_registry held registry = record held { registry = registry; accepted = true; groups = [] }
 
+-- the registry that the file is read as holds from now on
 pub record SetsRegistry (setting : Setting) (world : World) (file : List ℕ) (new : World) (answer : Answer) : Type 0 where
   pub bytes : List ℕ
   pub found : IsFile world.files file bytes
@@ -35,6 +37,7 @@ pub record SetsRegistry (setting : Setting) (world : World) (file : List ℕ) (n
   pub changed : new ≡ record world { held = with_registry world.held registry }
   pub says : answer ≡ Lines (ok_line ∷ [])
 
+-- `registry`: it does not come too late, the file is there and is a registry
 abbrev pub registering : Setting → World → List ℕ → Meaning
 registering setting world file = record {
   checks = registry_front world ++ file_checks world.files file ++ IsNoRegistry setting world file ∷ [];

@@ -9,5 +9,6 @@ pub record Setting : Type 0 where
 abbrev pub bare_setting : Setting
 bare_setting = record { mappers = [] }
 
+-- the names of the mappers at hand
 abbrev pub mapper_names : Setting → List (List ℕ)
 mapper_names setting = map (λ mapper. mapper.0) setting.mappers

@@ -25,6 +25,7 @@ pub data FineBy (meant : Meaning) (world : World) : World → Answer → Type 0 
   Declined : (refusal : Refusal) → FirstStands meant.checks refusal → FineBy meant world world (Refused (refusal_line refusal))
   Accepted : (new : World) (answer : Answer) → NoneStands meant.checks → meant.Accepts new answer → FineBy meant world new answer
 
+-- what a command does in a world while memory lasts and no call outside fails
 abbrev pub Fine : Setting → World → Command → World → Answer → Type 0
 Fine setting world command new answer = FineBy (meaning setting world command) world new answer
 
@@ -33,6 +34,7 @@ pub data StepBy (meant : Meaning) (world : World) (gained : Gained) : World → 
   Meant : (new : World) (answer : Answer) → FineBy meant world new answer → StepBy meant world gained new answer
   Excepted : (new : World) (answer : Answer) → meant.Excepts gained new answer → StepBy meant world gained new answer
 
+-- what a command does in a world in which the objects outside gained this
 abbrev pub Step : Setting → World → Command → Gained → World → Answer → Type 0
 Step setting world command gained new answer = StepBy (meaning setting world command) world gained new answer
 
@@ -45,5 +47,6 @@ pub data AskStepBy (asked : Question) (gained : Gained) : Answer → Type 0 wher
   AskStarved : AskStepBy asked gained (Refused no_memory_line)
   AskExcepted : (line : List ℕ) → asked.Excepts gained line → AskStepBy asked gained (Refused line)
 
+-- what a question is answered where this is held
 abbrev pub AskStep : Setting → Held → Ask → Gained → Answer → Type 0
 AskStep setting held ask gained answer = AskStepBy (question setting held ask) gained answer

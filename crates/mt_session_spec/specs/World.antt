@@ -17,6 +17,7 @@ pub record Held : Type 0 where
   pub grammar : Option Grammar
   pub groups : List Group
 
+-- the world: what is held, and the files of the shelf
 pub record World : Type 0 where
   pub held : Held
   pub files : Files
@@ -27,6 +28,7 @@ first_held = record { registry = standard_registry; accepted = false; grammar = 
 
 -- ## The corpus
 
+-- the texts of a group that were not removed
 abbrev pub live_texts : Group → List Text
 live_texts group = map (λ member. member.0) (filter (λ member. member.1) group)
 
@@ -50,6 +52,7 @@ IsFull groups tokens = (corpus_texts_limit ≤ length (kept_texts groups)) ⊎ (
 abbrev pub alone : Text → Group
 alone text = (text, true) ∷ []
 
+-- what is held with one text more
 abbrev pub with_text : Held → Text → Held
 with_text held text = record held { groups = held.groups ++ alone text ∷ [] }
 

@@ -16,12 +16,15 @@ outside left source_faults written sink_faults files failed =
 
 -- ## What a call changes: all else is as it was
 
+-- a read changes what the source has left and its count of faults
 abbrev pub reads_on : Outside → Outside → Outside
 reads_on old new = record old { left = new.left; source_faults = new.source_faults }
 
+-- a write changes what the sink holds and its count of faults
 abbrev pub writes_on : Outside → Outside → Outside
 writes_on old new = record old { written = new.written; sink_faults = new.sink_faults }
 
+-- a load changes the names at which calls of the shelf failed
 abbrev pub loads_on : Outside → Outside → Outside
 loads_on old new = record old { failed = new.failed }
 
