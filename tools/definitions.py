@@ -10,18 +10,10 @@ CASES = ('mt_session_spec', 'Meanings', ('meaning', 'question'))
 SPELLED = {'Load': 'open'}
 SHARED = ('unbuilt', 'asking')
 
-# In these crates, on which most others stand, a definition without a comment of its own is listed under the heading of its section, or of its file.
-# In every other crate each definition that a contract reaches has a comment.
-GROUPED = {
-    'mt_text_spec', 'mt_file_spec', 'mt_query_spec', 'mt_query_laws', 'mt_pattern_spec', 'mt_match_spec', 'mt_match_laws', 'mt_segment_spec', 'mt_segment_laws',
-    'mt_cql', 'mt_automaton', 'mt_eval_spec', 'mt_rows',
-}
-
 HEAD = '''# What a reader has to believe
 
 The contracts say what the code does in the words of definitions. Who believes that these definitions mean what they should, and trusts the toolchain, can rely on every reply.
-The pages below list all of them: each definition that a public contract reaches, each on one page, the lowest first, with the comment that stands above it. Where a comment speaks of several
-definitions, or a section of a file has only a heading, the statement stands beside the name. A type of the code that a definition names is listed as `src/..`.
+The pages below list all of them: each definition that a public contract reaches, each on one page, the lowest first, with the comment that stands above it. A type of the code that a definition names is listed as `src/..`.
 
 This page and those below it are made by `tools/docs`, and the gate checks that they are. Nothing in them is written by hand.
 '''
@@ -199,7 +191,7 @@ def without_comment(pages):
     """What is reached and has no comment, in the crates where each needs one."""
     for _, _, _, own, _ in pages.pages:
         for definition in own:
-            if not definition.comment and definition.place.crate not in GROUPED:
+            if not definition.comment:
                 yield f'crates/{definition.place.crate}/specs/{definition.place.module}.antt: {definition.place.name} has no comment'
 
 

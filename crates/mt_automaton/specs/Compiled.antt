@@ -15,6 +15,7 @@ use Rattle.mt_automaton.specs.LabelledParts.{labelled_meant}
 abbrev pub instances : contents.Tag → Tag
 instances tag = record { kind = tag.kind; test = tag.test }
 
+-- what stands where an expression has no tag of a number
 abbrev pub no_tag : contents.Tag
 no_tag = record { place = contents.OfEnd; kind = 0; test = q.Any }
 

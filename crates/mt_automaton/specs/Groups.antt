@@ -11,6 +11,7 @@ use Rattle.mt_automaton.specs.declared.groups.Group.{Group}
 use Rattle.mt_automaton.specs.Parts.{Seen}
 use Rattle.mt_automaton.specs.LabelledParts.{labelled_meant}
 
+-- a group without rows
 abbrev pub none : Group
 none = record { labels = []; ends = [] }
 

@@ -31,7 +31,7 @@ pub use tokens::Tokens;
 pub use value::Value;
 pub use words::{begins_identifier, identifier_len, is_identifier};
 
-/// Want of memory: the one answer that any call which takes memory may give at any time.
+/// Out of memory: the one answer that any call which takes memory may give at any time.
 #[derive(Clone, Copy, Debug, PartialEq, Eq, Drop)]
 pub struct NoMemory;
 

@@ -9,7 +9,7 @@ use std::alloc::Global;
 use std::marker::Model;
 
 /// Texts in order, seen as the list of their bytes. They lie one behind the other in one block, and beside it the places where they end, four bytes each. The
-/// block is smaller than 4 GiB: a text that would pass that is refused as by want of memory.
+/// block is smaller than 4 GiB: a text that would pass that is refused as where it runs out of memory.
 #[derive(Debug, Drop)]
 pub struct Strings {
     block: String,
@@ -134,7 +134,7 @@ impl Strings {
     }
 }
 
-/// Where a text ends that is put behind the block. A place that takes more than four bytes is refused as by want of memory.
+/// Where a text ends that is put behind the block. A place that takes more than four bytes is refused as where it runs out of memory.
 fn end_behind(block: &str, text: &str) -> Result<u32, NoMemory>
     ensures { IfOk result (λ end. end ≡ length block.now + length text.now) }
 {

@@ -1,4 +1,4 @@
-//! The calls that may want memory, each once with memory enough, and the order of rows.
+//! The calls that may run out of memory, each once with memory enough, and the order of rows.
 
 use super::{List, Row, Span, Strings, StructSpan, Tokens, Value};
 use std::test::Fail;

@@ -15,7 +15,7 @@ abbrev OneMeaning : Type 0
 OneMeaning = (registry : Registry) (default : ℕ) (text : List ℕ) (said other : Result q.Query v.Refusal) → v.Means registry default text said → v.Means registry default text other → said ≡ other
 
 module _ (one : OneMeaning) where
-  -- the parser answers with the query that a text means, or wants memory
+  -- the parser answers with the query that a text means, or is out of memory
   pub is_again : (registry : Registry) (default : ℕ) (text : List ℕ) (query : q.Query) (again : Result Query QueryError) →
       v.Means registry default text (Ok query) → Answered registry default text again → IsAgain query again
   is_again registry default text query (Ok read) m a = let e : Ok read ≡ Ok query = one registry default text _ _ a m in cc

@@ -5,7 +5,7 @@ use Rattle.mt_cql.specs.declared.query.Query.{Query}
 use Rattle.mt_cql.specs.declared.query.QueryError.{QueryError}
 use Rattle.mt_cql.specs.declared.query.QueryError.TheVariants as error
 
--- the answer is this query, or want of memory
+-- the answer is this query, or out of memory
 abbrev pub IsAgain : q.Query → Result Query QueryError → Type 0
 IsAgain query (Ok again) = again ≡ query
 IsAgain query (Err e) = e ≡ error.NoMemory

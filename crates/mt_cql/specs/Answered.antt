@@ -7,7 +7,7 @@ use Rattle.mt_cql.specs.declared.query.QueryError.{QueryError}
 use Rattle.mt_cql.specs.declared.query.QueryError.TheVariants as error
 use Rattle.mt_cql.specs.Read.{cause_seen}
 
--- The answer is what the text means under the registry, and a text means one thing alone. Only want of memory says nothing of the text.
+-- The answer is what the text means under the registry, and a text means one thing alone. Only running out of memory says nothing of the text.
 abbrev pub Answered : Registry → (default : ℕ) → (text : List ℕ) → Result Query QueryError → Type 0
 Answered registry default text (Ok query) = v.Means registry default text (Ok query)
 Answered registry default text (Err (error.Syntax at cause)) = v.Means registry default text (Err (v.Syntax at (cause_seen cause)))

@@ -19,6 +19,7 @@ second (gcons a b) = b
 abbrev whole : Coded Gv
 whole = record { code = λ g. g; inj = λ x y e. e }
 
+-- a truth value as a number
 abbrev pub flag : Bool → Gv
 flag true = gnum 1
 flag false = gnum 0
@@ -30,6 +31,7 @@ flag_back : (b : Bool) → is_on (flag b) ≡ b
 flag_back true = refl
 flag_back false = refl
 
+-- a text as a tree
 abbrev pub text_tree : List ℕ → Gv
 text_tree [] = gnil
 text_tree (b ∷ text) = gcons (gnum b) (text_tree text)
@@ -45,6 +47,7 @@ text_back (b ∷ text) = λ i. b ∷ text_back text i
 
 -- ## Tests
 
+-- a test as a tree
 abbrev pub test_tree : q.Test → Gv
 test_tree q.Any = gnil
 test_tree (q.Pattern attr text negated) = gcons (gnum 0) (gcons (gnum attr) (gcons (flag negated) (text_tree text)))
@@ -77,6 +80,7 @@ test_code = code_by Gv whole test_tree test_of test_back
 
 -- ## Expressions
 
+-- an expression as a tree
 abbrev pub expr_tree : q.Expr → Gv
 expr_tree (q.TokenTest label test) = gcons (gnum 0) (gcons (gnum label) (test_tree test))
 expr_tree (q.Begin kind test) = gcons (gnum 1) (gcons (gnum kind) (test_tree test))
@@ -113,6 +117,7 @@ expr_code = code_by Gv whole expr_tree expr_of expr_back
 
 -- ## Filters
 
+-- the number of a kind of filter
 abbrev pub kind_number : q.FilterKind → ℕ
 kind_number q.Within = 0
 kind_number q.NotWithin = 1
@@ -128,6 +133,7 @@ kind_back q.NotWithin = refl
 kind_back q.Containing = refl
 kind_back q.NotContaining = refl
 
+-- filters as a tree
 abbrev pub filters_tree : q.Filters → Gv
 filters_tree q.NoMore = gnil
 filters_tree (q.More kind head filters others) = gcons (gcons (gnum (kind_number kind)) (expr_tree head)) (gcons (filters_tree filters) (filters_tree others))
@@ -145,6 +151,7 @@ filters_code = code_by Gv whole filters_tree filters_of filters_back
 
 -- ## Conditions and queries
 
+-- a condition as a tree
 abbrev pub cond_tree : q.Cond → Gv
 cond_tree c = gcons (gnum c.left) (gcons (gnum c.left_attr) (gcons (flag c.equal) (gcons (gnum c.right) (gnum c.right_attr))))
 
@@ -160,6 +167,7 @@ cond_of g = record {
 cond_back : (c : q.Cond) → cond_of (cond_tree c) ≡ c
 cond_back c = λ i. record { left = c.left; left_attr = c.left_attr; equal = flag_back c.equal i; right = c.right; right_attr = c.right_attr }
 
+-- conditions as a tree
 abbrev pub conds_tree : List q.Cond → Gv
 conds_tree [] = gnil
 conds_tree (c ∷ conds) = gcons (cond_tree c) (conds_tree conds)
@@ -173,6 +181,7 @@ conds_back : (conds : List q.Cond) → conds_of (conds_tree conds) ≡ conds
 conds_back [] = refl
 conds_back (c ∷ conds) = λ i. cond_back c i ∷ conds_back conds i
 
+-- a query as a tree
 abbrev pub query_tree : q.Query → Gv
 query_tree query = gcons (expr_tree query.head) (gcons (filters_tree query.filters) (conds_tree query.conds))
 

@@ -22,6 +22,7 @@ use Rattle.mt_cql.specs.declared.parts.Part.{Part}
 use Rattle.mt_query_laws.specs.Parts as p
 use Rattle.mt_cql.specs.Shape.{test_shape, shape, kind_shape, filters_shape}
 
+-- the cause that a cause of the program stands for
 abbrev pub cause_seen : Cause → v.Cause
 cause_seen cause.Token = v.NoQuery
 cause_seen cause.String = v.NoStringEnd
@@ -29,7 +30,7 @@ cause_seen cause.Char = v.NoTokenBegins
 cause_seen cause.Range = v.Range
 cause_seen cause.Label = v.BadLabel
 
--- what the program answers is what is said of a text, unless memory is wanted
+-- what the program answers is what is said of a text, unless memory runs out
 abbrev pub Said : Result Query QueryError → Result q.Query v.Refusal → Type 0
 Said (Ok query) said = said ≡ Ok query
 Said (Err (error.Syntax at cause)) said = said ≡ Err (v.Syntax at (cause_seen cause))

@@ -8,6 +8,7 @@ use base.Stored.{Gv, gnil, gnum, gcons, num}
 use Rattle.mt_text_spec.specs.Queries as q
 use Rattle.mt_cql.specs.Codes.{first, second, query_tree, query_code}
 
+-- whether two trees are equal
 abbrev pub same_trees : Gv → Gv → Bool
 same_trees gnil gnil = true
 same_trees (gnum m) (gnum n) = nat_eq m n
@@ -43,6 +44,7 @@ trees_decide (gcons a b) (gcons c d) = (
   λ e. so_both (same_trees a c) (same_trees b d) ((trees_decide a c).1 (ap first e)) ((trees_decide b d).1 (ap second e)),
 )
 
+-- whether two queries are equal
 abbrev pub same_query : q.Query → q.Query → Bool
 same_query a b = same_trees (query_tree a) (query_tree b)
 

@@ -12,7 +12,7 @@ ghost use Rattle.mt_query_spec.specs.Valid.{ValidQuery};
 
 use mt_query_laws::{one_meaning, printed_is_read};
 
-/// What `parse` answers to the printed text of a valid query is that query, or want of memory, where that text has at most 4,096 bytes.
+/// What `parse` answers to the printed text of a valid query is that query, or out of memory, where that text has at most 4,096 bytes.
 pub fn print_then_parse()
     ensures { (registry : Registry) (default : ℕ) (query : Query) (again : Result read.Query QueryError) → ValidRegistry registry → ValidQuery registry query
         → length (printed registry query) ≤ 4096 → Answered registry default (printed registry query) again → IsAgain query again }

@@ -16,6 +16,7 @@ is_blank b = b == 32 || b == 9
 abbrev pub trimmed_end : List ℕ → List ℕ
 trimmed_end bytes = take (length bytes - suffix_len is_blank bytes) bytes
 
+-- the bytes without the blanks at both ends
 abbrev pub trimmed : List ℕ → List ℕ
 trimmed bytes = trimmed_end (drop (prefix_len is_blank bytes) bytes)
 
@@ -61,11 +62,13 @@ bare_form bare =
     else if pointwise nat_eq bare (125 ∷ []) then Closing
     else keyed bare
 
+-- the form of a line of the file
 unfoldable pub form_of : List ℕ → Form
 form_of line = bare_form (trimmed line)
 
 -- ## Keywords and blocks
 
+-- the keywords that count
 pub data Keyword : Type 0 where
   Attribute : Keyword
   Structure : Keyword
@@ -73,6 +76,7 @@ pub data Keyword : Type 0 where
   FromAttr : Keyword
   WsAttr : Keyword
 
+-- the keyword that a key is, if it is one
 unfoldable pub keyword_of : List ℕ → Option Keyword
 keyword_of key =
     if pointwise nat_eq key (codes "ATTRIBUTE") then Some Attribute
@@ -82,6 +86,7 @@ keyword_of key =
     else if pointwise nat_eq key (codes "WSATTR") then Some WsAttr
     else None
 
+-- whether two keywords are one
 abbrev pub same_keyword : Keyword → Keyword → Bool
 same_keyword Attribute Attribute = true
 same_keyword Structure Structure = true
@@ -126,10 +131,12 @@ is_heeded (Some (OfAttribute line)) = true
 is_heeded (Some (OfStructure line)) = true
 is_heeded (Some Other) = true
 
+-- the effect of a keyword in a block, if there is one
 abbrev pub effect_if : ℕ → Option Block → Option Keyword → Option Effect
 effect_if number block None = None
 effect_if number block (Some keyword) = effect_in number block keyword
 
+-- the effect of a line with this key in these blocks, if it has one
 unfoldable pub effect_of : ℕ → List Block → List ℕ → Option Effect
 effect_of number open_blocks key = effect_if number (innermost open_blocks) (keyword_of key)
 
@@ -154,6 +161,7 @@ pub record Line : Type 0 where
   pub text : List ℕ
   pub blocks : List Block
 
+-- lines in their places, the first of which has this number and stands in these blocks
 abbrev pub lines_from : ℕ → List Block → List (List ℕ) → List Line
 lines_from number open_blocks [] = []
 lines_from number open_blocks (text ∷ texts) =
@@ -171,19 +179,23 @@ pub record Statement : Type 0 where
   pub place : ℕ
   pub value : List ℕ
 
+-- the statement of a line of this number with this value, where its keyword has an effect
 abbrev pub stated : ℕ → List ℕ → Option Effect → Option Statement
 stated number value None = None
 stated number value (Some effect) = Some (record { line = number; keyword = effect.keyword; place = effect.place; value = value })
 
+-- what a line of this number and form states in these blocks, the innermost first
 abbrev pub statement_in : ℕ → List Block → Form → Option Statement
 statement_in number open_blocks Skipped = None
 statement_in number open_blocks Closing = None
 statement_in number open_blocks Formless = None
 statement_in number open_blocks (Entry key value opens) = stated number value (effect_of number open_blocks key)
 
+-- what a line states, if anything
 abbrev pub statement_of : Line → Option Statement
 statement_of line = statement_in line.number line.blocks (form_of line.text)
 
+-- what the lines state, in order
 abbrev pub statements_of : List Line → List Statement
 statements_of all = filter_map statement_of all
 
@@ -192,10 +204,12 @@ pub record File : Type 0 where
   pub lines : List Line
   pub unclosed : ℕ
 
+-- the number of the last line where a block is open behind it, else 0
 abbrev pub unclosed_at : List Block → ℕ → ℕ
 unclosed_at [] last = 0
 unclosed_at (block ∷ blocks) last = last
 
+-- the file of these bytes
 abbrev pub file_of : List ℕ → File
 file_of bytes = record { lines = lines_from 1 [] (lines bytes); unclosed = unclosed_at (behind_all 1 [] (lines bytes)) (length (lines bytes)) }
 
@@ -236,6 +250,7 @@ pub record IsBaseName (statements : List Statement) (unclosed : ℕ) (name : Lis
 
 -- ## Causes
 
+-- why a line of a registry is bad, in the order in which causes are told
 pub data RegistryCause : Type 0 where
   Syntax : RegistryCause
   Twice : RegistryCause
@@ -311,6 +326,7 @@ pub record FirstRegistryFault (mappers : List (List ℕ)) (bytes : List ℕ) (li
 abbrev pub attributes_of : List Statement → List Statement
 attributes_of statements = filter (gives Attribute 0) statements
 
+-- the statements that declare structures
 abbrev pub structures_of : List Statement → List Statement
 structures_of statements = filter (gives Structure 0) statements
 

@@ -9,6 +9,7 @@ use Rattle.mt_text_spec.specs.Words.{is_identifier_start, IsIdentifier}
 abbrev pub is_space : ℕ → Bool
 is_space b = b == 32
 
+-- spaces, or nothing
 abbrev pub AreSpaces : List ℕ → Type 0
 AreSpaces bytes = AllPass is_space bytes
 
@@ -81,6 +82,7 @@ pub record SpellsEnd (line name : List ℕ) : Type 0 where
   pub spaces : AreSpaces inner
   pub spaces_behind : AreSpaces behind
 
+-- the line is this tag
 abbrev pub Spells : List ℕ → Tag → Type 0
 Spells line (OpeningTag name attrs) = SpellsBegin (codes ">") line name attrs
 Spells line (EmptyTag name attrs) = SpellsBegin (codes "/>") line name attrs

@@ -11,6 +11,7 @@ use Rattle.mt_file_spec.specs.VerticalLines.{Role, Opens, Stands, Closes, Gives,
 abbrev pub byte_order_mark : List ℕ
 byte_order_mark = 239 ∷ 187 ∷ 191 ∷ []
 
+-- the bytes without a byte order mark in front
 abbrev pub without_mark : List ℕ → List ℕ
 without_mark bytes = if bytes_eq (take 3 bytes) byte_order_mark then drop 3 bytes else bytes
 
@@ -20,6 +21,7 @@ text_lines bytes = lines (without_mark bytes)
 
 -- ## Tokens
 
+-- the token of a line that is one
 abbrev pub token_in : Role → List Token
 token_in (Gives token) = token ∷ []
 token_in role = []

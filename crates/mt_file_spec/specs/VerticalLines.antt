@@ -26,6 +26,7 @@ pub record IsForeign (registry : Registry) (line : List ℕ) (tag : Tag) (name :
   pub spelled : IsTag line tag
   pub foreign : ¬ Contains (kind_names registry.kinds) name
 
+-- the name of a tag
 abbrev pub tag_name : Tag → List ℕ
 tag_name (OpeningTag name attrs) = name
 tag_name (EmptyTag name attrs) = name
@@ -61,6 +62,7 @@ pub record IsTokenLine (registry : Registry) (line : List ℕ) (token : Token) :
   pub untagged : (tag : Tag) → ¬ IsTag line tag
   pub are : token.values ≡ first_columns (base_count registry.attrs) (columns line)
 
+-- what a line is: skipped or the tag of an undeclared structure, which do nothing; a tag that opens, stands alone or closes; or a token
 abbrev pub Plays : Registry → List ℕ → Role → Type 0
 Plays registry line Passes = IsSkipped line ⊎ ((tag : Tag) × IsForeign registry line tag (tag_name tag))
 Plays registry line (Opens kind values) = IsDeclared registry line OpeningTag kind values

@@ -20,7 +20,7 @@ fn main(rt: HostRuntime) -> io::Result<()> {
     let reading = wanting::read(rt.alloc());
     if reading.is_whole() {
         println!(rt;
-            "one script is read whole where memory was wanted {} times",
+            "one script is read whole where memory ran out {} times",
             reading.wanted
         )?;
     }

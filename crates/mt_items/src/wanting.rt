@@ -1,4 +1,4 @@
-//! One script read where memory is wanted.
+//! One script read where memory runs out.
 //!
 //! Nothing but the reader takes memory here. Run with each of its allocations failing in turn, this shows that the reader goes on
 //! after a refusal as if the call had not been made.
@@ -24,7 +24,7 @@ pub struct Reading {
     pub told: u32,
     /// How many are not.
     pub other: u32,
-    /// How often memory was wanted.
+    /// How often memory ran out.
     pub wanted: u32,
 }
 
@@ -60,7 +60,7 @@ fn is_item(place: u32, next: &Next) -> bool {
     }
 }
 
-/// What comes next, asked again where memory was wanted.
+/// What comes next, asked again where memory ran out.
 fn next_of_two(alloc: Global, reader: &mut ScriptReader, reading: &mut Reading) -> Next
     ensures { reader.new.ended ≡ reader.old.ended }
 {
@@ -93,7 +93,7 @@ fn take(alloc: Global, reader: &mut ScriptReader, reading: &mut Reading)
     }
 }
 
-/// Feeds a piece, again where memory was wanted, and takes what is given out then.
+/// Feeds a piece, again where memory ran out, and takes what is given out then.
 fn give(alloc: Global, reader: &mut ScriptReader, piece: &[u8], reading: &mut Reading)
     requires { reader.old.ended ≡ false }
     ensures { reader.new.ended ≡ false }

@@ -7,7 +7,7 @@ use super::mapper::Mapper;
 use mt_base::{List, NoMemory, Value};
 use std::alloc::Global;
 
-/// The images of values, in their order. The mapper is called once for each; where memory is wanted half-way, those calls are counted
+/// The images of values, in their order. The mapper is called once for each; where memory runs out half-way, those calls are counted
 /// that were made.
 pub fn images<M: Mapper>(
     alloc: Global,

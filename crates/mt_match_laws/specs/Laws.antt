@@ -18,6 +18,7 @@ HaveRows = (images : Images) (registry : Registry) (corpus : List Text) (expr : 
 abbrev pub HaveKept : Type 0
 HaveKept = (images : Images) (registry : Registry) (corpus : List Text) (query : Query) → (rows : List Row) × Kept images registry corpus query rows
 
+-- a query has a list of its spans
 abbrev pub HaveSpans : Type 0
 HaveSpans = (images : Images) (registry : Registry) (corpus : List Text) (query : Query) → (spans : List Span) × Spans images registry corpus query spans
 
@@ -30,8 +31,10 @@ ListsAreOne = (rows others : List Row) → IsStrictlySortedBy row_cmp rows → I
 abbrev pub RowsAreOne : Type 0
 RowsAreOne = (images : Images) (registry : Registry) (corpus : List Text) (expr : Expr) (rows others : List Row) → Rows images registry corpus expr rows → Rows images registry corpus expr others → rows ≡ others
 
+-- there is one list of the rows that a query keeps
 abbrev pub KeptAreOne : Type 0
 KeptAreOne = (images : Images) (registry : Registry) (corpus : List Text) (query : Query) (rows others : List Row) → Kept images registry corpus query rows → Kept images registry corpus query others → rows ≡ others
 
+-- there is one list of the spans of a query
 abbrev pub SpansAreOne : Type 0
 SpansAreOne = (images : Images) (registry : Registry) (corpus : List Text) (query : Query) (spans others : List Span) → Spans images registry corpus query spans → Spans images registry corpus query others → spans ≡ others

@@ -24,6 +24,7 @@ pub record IsWithin (IsOperands : Span → Type 0) (span : Span) : Type 0 where
   pub is_operands : IsOperands around
   pub lies : LiesIn span around
 
+-- some span of the operand lies in the span
 pub record IsContaining (IsOperands : Span → Type 0) (span : Span) : Type 0 where
   pub held : Span
   pub is_operands : IsOperands held

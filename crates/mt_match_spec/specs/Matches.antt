@@ -23,6 +23,7 @@ pub record IsInstance (text : Text) (kind : ℕ) (test : Test) (begin end : ℕ)
   pub ends : span.end ≡ end
   pub holds : Holds test (λ attr. slice_index_or span.values attr [])
 
+-- what a query sees of a text under a registry
 abbrev pub sight : Images → Registry → Text → Sight
 sight images registry text = record {
   tokens = length text.tokens;
@@ -81,6 +82,7 @@ pub record Repeated (R : Relation) (least most begin end : ℕ) (labels : List �
   pub high : count ≤ most
   pub turns : Turns R count begin end labels
 
+-- what an expression matches in a text, by cases on its form
 abbrev pub Matches : Sight → Expr → Relation
 Matches s (TokenTest label test) = IsToken s label test
 Matches s (Begin kind test) = IsBegin s kind test

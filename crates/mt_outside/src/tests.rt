@@ -91,7 +91,7 @@ fn stored<F: Shelf>(shelf: &mut F, name: &str, bytes: &str) -> &'static [u8] {
     }
 }
 
-/// `!` for a failure, `?` for want of memory.
+/// `!` for a failure, `?` for out of memory.
 fn letter(error: ShelfError) -> &'static [u8] {
     match error {
         ShelfError::Failed => b"!",

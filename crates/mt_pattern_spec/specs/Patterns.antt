@@ -9,6 +9,7 @@ use Rattle.regex_syntax.specs.Grammar.{Names, read}
 abbrev pub reading : List ℕ → Option (Nested Re × Names)
 reading text = read default_config (chars text)
 
+-- a text is a pattern where it can be read
 abbrev pub IsPattern : List ℕ → Type 0
 IsPattern text = IsSome (reading text)
 

@@ -19,7 +19,7 @@ IsStopped least unread (decode.TooLarge bit) = (bit ≡ unread.place) × (IsTooL
 IsStopped least unread (decode.Padding bit) = ⊥
 IsStopped least unread decode.NoMemory = ⊥
 
--- why these bits are not the codes of `count` positions; want of memory says nothing of them
+-- why these bits are not the codes of `count` positions; running out of memory says nothing of them
 abbrev pub IsNoList : ℕ → List Bool → DecodeError → Type 0
 IsNoList count all (decode.Cut bit) = IsCutAt count all bit
 IsNoList count all (decode.TooLarge bit) = IsTooLargeAt count all bit

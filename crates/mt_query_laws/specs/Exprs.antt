@@ -121,6 +121,7 @@ pub record Asked (X : Rank → Type 0) (F : Filtered → Type 0) : Type 0 where
 abbrev pub op_of : ℕ → List ℕ → Option Op
 op_of at name = cond (pointwise nat_eq name (codes "within")) (Some (Within at)) (cond (pointwise nat_eq name (codes "containing")) (Some (Containing at)) None)
 
+-- the word behind `!` that begins an op
 abbrev pub not_op_of : ℕ → List ℕ → Option Op
 not_op_of at name = cond (pointwise nat_eq name (codes "within")) (Some (NotWithin at)) (cond (pointwise nat_eq name (codes "containing")) (Some (NotContaining at)) None)
 
@@ -150,6 +151,7 @@ pub data State (Y : Tested → TestRank → Type 0) (X : Rank → Type 0) (F : F
   CondRead : (asked : Asked X F) (conds : C) → State Y X F C
 
 module _ {Y : Tested → TestRank → Type 0} {X : Rank → Type 0} {F : Filtered → Type 0} {C Q : Type 0} (ways : Ways Y X F C Q) where
+  -- nothing stands before
   abbrev pub none_before : Group X
   none_before = record { sequence = None; branches = None }
 
@@ -157,17 +159,21 @@ module _ {Y : Tested → TestRank → Type 0} {X : Rank → Type 0} {F : Filtere
   abbrev pub choice_place : Around X F → Place X F
   choice_place around = record { before = none_before; around = around }
 
+  -- nothing of a query is read
   abbrev pub start : State Y X F C
   start = Wanted (choice_place (record { groups = []; heads = [] }))
 
+  -- a sequence with one item more
   abbrev pub sequence_of : Option (X Sequence) → X Item → X Sequence
   sequence_of None item = ways.first item
   sequence_of (Some left) item = ways.then left item
 
+  -- a choice with one sequence more
   abbrev pub choice_of : Option (X Choice) → X Sequence → X Choice
   choice_of None sequence = ways.branch sequence
   choice_of (Some left) sequence = ways.or left sequence
 
+  -- filters with one more
   abbrev pub filters_of : Option (F Filters) → Op → F Operand → F Filters
   filters_of None op operand = ways.filter op operand
   filters_of (Some left) op operand = ways.more left op operand
@@ -192,60 +198,74 @@ module _ {Y : Tested → TestRank → Type 0} {X : Rank → Type 0} {F : Filtere
   labelled_step at number place (Mark t.OpenSquare) = Some (TokenOpened (Labelled at number) place)
   labelled_step at number place _ = None
 
+  -- inside `[`, where the test goes on
   unfoldable pub in_token : Label → Place X F → Option (TestState (Y OfToken)) → Option (State Y X F C)
   in_token label place None = None
   in_token label place (Some test) = Some (InToken label test place)
 
+  -- behind `]`, where the test may end
   unfoldable pub token_read : Label → Place X F → Option (Y OfToken Whole) → Option (State Y X F C)
   token_read label place None = None
   token_read label place (Some test) = Some (AtomRead (ways.token_test label (Some test)) place)
 
+  -- inside a test between brackets
   unfoldable pub token_step : Label → TestState (Y OfToken) → Place X F → Token → Option (State Y X F C)
   token_step label test place (Mark t.CloseSquare) = token_read label place (whole_test ways.token_tests test)
   token_step label test place token = in_token label place (test_step ways.token_tests test token)
 
+  -- behind `[`
   unfoldable pub opened_step : Label → Place X F → Token → Option (State Y X F C)
   opened_step label place (Mark t.CloseSquare) = Some (AtomRead (ways.token_test label None) place)
   opened_step label place token = in_token label place (test_step ways.token_tests test_start token)
 
+  -- inside a tag, where its test goes on
   unfoldable pub in_tag : ℕ → List ℕ → Place X F → Option (TestState (Y OfTag)) → Option (State Y X F C)
   in_tag at name place None = None
   in_tag at name place (Some test) = Some (InTag at name test place)
 
+  -- behind the `>` of a tag, where its test may end
   unfoldable pub begin_read : ℕ → List ℕ → Place X F → Option (Y OfTag Whole) → Option (State Y X F C)
   begin_read at name place None = None
   begin_read at name place (Some test) = Some (AtomRead (ways.begin_tag at name (Some test)) place)
 
+  -- behind the `/>` of a tag, where its test may end
   unfoldable pub whole_read : ℕ → List ℕ → Place X F → Option (Y OfTag Whole) → Option (State Y X F C)
   whole_read at name place None = None
   whole_read at name place (Some test) = Some (AtomRead (ways.whole_tag at name (Some test)) place)
 
+  -- inside the test of a tag
   unfoldable pub tag_step : ℕ → List ℕ → TestState (Y OfTag) → Place X F → Token → Option (State Y X F C)
   tag_step at name test place (Mark t.TagEnd) = begin_read at name place (whole_test (ways.tag_tests name) test)
   tag_step at name test place (Mark t.WholeEnd) = whole_read at name place (whole_test (ways.tag_tests name) test)
   tag_step at name test place token = in_tag at name place (test_step (ways.tag_tests name) test token)
 
+  -- behind the name of a tag
   unfoldable pub named_step : ℕ → List ℕ → Place X F → Token → Option (State Y X F C)
   named_step at name place (Mark t.TagEnd) = Some (AtomRead (ways.begin_tag at name None) place)
   named_step at name place (Mark t.WholeEnd) = Some (AtomRead (ways.whole_tag at name None) place)
   named_step at name place token = in_tag at name place (test_step (ways.tag_tests name) test_start token)
 
+  -- behind `<`
   unfoldable pub tag_opened_step : Place X F → Token → Option (State Y X F C)
   tag_opened_step place (Word at name) = Some (TagNamed at name place)
   tag_opened_step place _ = None
 
+  -- behind `</`
   unfoldable pub closing_opened_step : Place X F → Token → Option (State Y X F C)
   closing_opened_step place (Word at name) = Some (ClosingNamed at name place)
   closing_opened_step place _ = None
 
+  -- behind the name of a closing tag
   unfoldable pub closing_named_step : ℕ → List ℕ → Place X F → Token → Option (State Y X F C)
   closing_named_step at name place (Mark t.TagEnd) = Some (AtomRead (ways.end_tag at name) place)
   closing_named_step at name place _ = None
 
+  -- behind the number of a label
   unfoldable pub label_step : ℕ → ℕ → Place X F → Token → Option (State Y X F C)
   label_step at number place (Mark t.Colon) = Some (LabelDone at number place)
   label_step at number place _ = None
 
+  -- inside the braces of a repetition
   unfoldable pub repeat_step : X Atom → ℕ → Counting → Place X F → Token → Option (State Y X F C)
   repeat_step atom at Opened place (Number n_at n) = Some (InRepeat atom at (Least n_at n) place)
   repeat_step atom at (Least n_at n) place (Mark t.CloseCurly) = Some (item_read (ways.repeated atom (Exactly at n_at n)) place)
@@ -260,6 +280,7 @@ module _ {Y : Tested → TestRank → Type 0} {X : Rank → Type 0} {F : Filtere
   close_filters choice filters [] = None
   close_filters choice filters (head ∷ heads) = Some (FiltersRead head.choice (filters_of head.filters head.op (ways.with_filters choice filters)) heads)
 
+  -- the filters with one more, whose operand has none
   abbrev pub with_operand : Head X F → X Choice → F Filters
   with_operand head choice = filters_of head.filters head.op (ways.plain choice)
 
@@ -282,6 +303,7 @@ module _ {Y : Tested → TestRank → Type 0} {X : Rank → Type 0} {F : Filtere
   asked_of choice [] (head ∷ []) = Some (record { choice = head.choice; filters = Some (with_operand head choice) })
   asked_of choice _ _ = None
 
+  -- filters end before a condition or the end of the text
   unfoldable pub asked_filters : X Choice → F Filters → List (Head X F) → Option (Asked X F)
   asked_filters choice filters [] = Some (record { choice = choice; filters = Some filters })
   asked_filters choice filters (head ∷ heads) = None
@@ -296,6 +318,7 @@ module _ {Y : Tested → TestRank → Type 0} {X : Rank → Type 0} {F : Filtere
   filtered (Some op) (Some (asked, heads)) = Some (Wanted (choice_place (record { groups = []; heads = record { choice = asked.choice; filters = asked.filters; op = op } ∷ heads })))
   filtered _ _ = None
 
+  -- a `&` behind the head and its filters begins a condition
   unfoldable pub cond_begins : Option (Asked X F) → C → Option (State Y X F C)
   cond_begins None conds = None
   cond_begins (Some asked) conds = Some (InCond asked conds (Left Started))
@@ -317,6 +340,7 @@ module _ {Y : Tested → TestRank → Type 0} {X : Rank → Type 0} {F : Filtere
   atom_step atom place (OpenCurly at) = Some (InRepeat atom at Opened place)
   atom_step atom place token = read_step (sequence_of place.before.sequence (ways.once atom)) place.before.branches place.around token
 
+  -- behind filters in parentheses
   unfoldable pub filters_step : X Choice → F Filters → List (Head X F) → Token → Option (State Y X F C)
   filters_step choice filters heads (Mark t.CloseRound) = close_filters choice filters heads
   filters_step choice filters heads (Mark t.Bang) = Some (BangRead (record { choice = choice; filters = Some filters }) heads)
@@ -324,6 +348,7 @@ module _ {Y : Tested → TestRank → Type 0} {X : Rank → Type 0} {F : Filtere
   filters_step choice filters heads (Word at name) = filtered (op_of at name) (Some (record { choice = choice; filters = Some filters }, heads))
   filters_step choice filters heads _ = None
 
+  -- behind the `!` of an op
   unfoldable pub bang_step : Asked X F → List (Head X F) → Token → Option (State Y X F C)
   bang_step asked heads (Word at name) = filtered (not_op_of at name) (Some (asked, heads))
   bang_step asked heads _ = None
@@ -333,6 +358,7 @@ module _ {Y : Tested → TestRank → Type 0} {X : Rank → Type 0} {F : Filtere
   in_cond asked conds None = None
   in_cond asked conds (Some cond) = Some (InCond asked conds cond)
 
+  -- inside a condition
   unfoldable pub cond_step : Asked X F → C → Condition → Token → Option (State Y X F C)
   cond_step asked conds (Left side) token = in_cond asked conds (left_step side token)
   cond_step asked conds (LeftRead left) token = in_cond asked conds (sign_step left token)
@@ -340,6 +366,7 @@ module _ {Y : Tested → TestRank → Type 0} {X : Rank → Type 0} {F : Filtere
       Some (CondRead asked (ways.cond asked.choice conds (cond_tree left equal (record { at = at; number = number; name_at = name_at; name = name }))))
   cond_step asked conds (Right left equal right) token = in_cond asked conds (right_step left equal right token)
 
+  -- behind a condition
   unfoldable pub conds_step : Asked X F → C → Token → Option (State Y X F C)
   conds_step asked conds (Mark t.And) = Some (InCond asked conds (Left Started))
   conds_step asked conds _ = None
@@ -369,9 +396,11 @@ module _ {Y : Tested → TestRank → Type 0} {X : Rank → Type 0} {F : Filtere
   run state [] = Some state
   run state (token ∷ tokens) = and_then (step state token) (λ next. run next tokens)
 
+  -- the query of a head, its filters and its conditions
   abbrev pub query_of : Asked X F → C → Q
   query_of asked conds = elim asked.filters [ Some filters ↦ ways.asks_filtered asked.choice filters conds | None ↦ ways.asks asked.choice conds ]
 
+  -- the query, where the text may end here
   unfoldable pub ends : Option (Asked X F) → C → Option Q
   ends None conds = None
   ends (Some asked) conds = Some (query_of asked conds)

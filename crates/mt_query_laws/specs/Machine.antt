@@ -35,12 +35,15 @@ pub data TestState (Y : TestRank → Type 0) : Type 0 where
   Compares : (at : ℕ) (name : List ℕ) (comparison : Comparison) (level : Level Y) (outer : List (Level Y)) → TestState Y
   HaveTest : (both : Y Conjunction) (either : Option (Y Whole)) (outer : List (Level Y)) → TestState Y
 
+-- nothing of a level is read
 abbrev pub empty_level : {Y : TestRank → Type 0} → Level Y
 empty_level = record { either = None; both = None; nots = 0 }
 
+-- nothing of a test is read
 abbrev pub test_start : {Y : TestRank → Type 0} → TestState Y
 test_start = WantTest empty_level []
 
+-- a test negated so many times
 abbrev pub nots_of : {A : Type 0} → (A → A) → ℕ → A → A
 nots_of negated zero test = test
 nots_of negated (suc n) test = nots_of negated n (negated test)
@@ -54,6 +57,7 @@ joined_of one more (Some left) test = more left test
 abbrev pub have_test : {Y : TestRank → Type 0} → TestWays Y → Y Unary → Level Y → List (Level Y) → TestState Y
 have_test ways test level outer = HaveTest (joined_of ways.one ways.both level.both (nots_of ways.not level.nots test)) level.either outer
 
+-- the comparison of a sign, if it is one
 abbrev pub comparison_of : Sign → Option Comparison
 comparison_of t.Is = Some Accepts
 comparison_of t.IsNot = Some Refuses
@@ -61,6 +65,7 @@ comparison_of t.Same = Some Equals
 comparison_of t.Differs = Some Differs
 comparison_of _ = None
 
+-- where a test is wanted: the next token
 unfoldable pub want_step : {Y : TestRank → Type 0} → TestWays Y → Level Y → List (Level Y) → Token → Option (TestState Y)
 want_step ways level outer (Word at name) = Some (Named at name level outer)
 want_step ways level outer (Quoted content) = elim ways.bare [ Some bare ↦ Some (have_test ways (bare content) level outer) | None ↦ None ]
@@ -68,18 +73,22 @@ want_step ways level outer (Mark t.Bang) = Some (WantTest (record level { nots =
 want_step ways level outer (Mark t.OpenRound) = Some (WantTest empty_level (level ∷ outer))
 want_step ways level outer _ = None
 
+-- behind the name of an attribute
 unfoldable pub named_step : {Y : TestRank → Type 0} → ℕ → List ℕ → Level Y → List (Level Y) → Token → Option (TestState Y)
 named_step at name level outer (Mark sign) = elim (comparison_of sign) [ Some comparison ↦ Some (Compares at name comparison level outer) | None ↦ None ]
 named_step at name level outer _ = None
 
+-- behind the sign of a comparison
 unfoldable pub compares_step : {Y : TestRank → Type 0} → TestWays Y → ℕ → List ℕ → Comparison → Level Y → List (Level Y) → Token → Option (TestState Y)
 compares_step ways at name comparison level outer (Quoted content) = Some (have_test ways (ways.compared at name comparison content) level outer)
 compares_step ways at name comparison level outer _ = None
 
+-- a `)` behind a test
 unfoldable pub close_test : {Y : TestRank → Type 0} → TestWays Y → Y Whole → List (Level Y) → Option (TestState Y)
 close_test ways test [] = None
 close_test ways test (level ∷ outer) = Some (have_test ways (ways.bracketed test) level outer)
 
+-- behind a test
 unfoldable pub have_step : {Y : TestRank → Type 0} → TestWays Y → Y Conjunction → Option (Y Whole) → List (Level Y) → Token → Option (TestState Y)
 have_step ways both either outer (Mark t.And) = Some (WantTest (record { either = either; both = Some both; nots = 0 }) outer)
 have_step ways both either outer (Mark t.Bar) = Some (WantTest (record { either = Some (joined_of ways.sole ways.either either both); both = None; nots = 0 }) outer)

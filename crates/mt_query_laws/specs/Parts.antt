@@ -16,9 +16,11 @@ capped n = min n (2 ^ 32 - 1)
 unfoldable pub kept : {X : Type 0} → (nodes : ℕ) → (small whole : X) → X
 kept nodes small whole = cond (nat_lt 256 nodes) small whole
 
+-- a test, or the one that asks nothing where it has too many nodes
 abbrev pub kept_test : ℕ → q.Test → q.Test
 kept_test nodes test = kept nodes q.Any test
 
+-- an expression, or a small one in its place where it has too many nodes
 abbrev pub kept_expr : ℕ → q.Expr → q.Expr
 kept_expr nodes expr = kept nodes (q.TokenTest 0 q.Any) expr
 
@@ -28,9 +30,11 @@ pub record TestPart : Type 0 where
   pub unknown : Option ℕ
   pub nodes : ℕ
 
+-- a test negated
 abbrev pub not_part : TestPart → TestPart
 not_part inner = record { test = kept_test (capped (inner.nodes + 1)) (q.Not inner.test); unknown = inner.unknown; nodes = capped (inner.nodes + 1) }
 
+-- two tests that both hold
 abbrev pub both_part : TestPart → TestPart → TestPart
 both_part left right = record {
   test = kept_test (capped (capped (left.nodes + right.nodes) + 1)) (q.Both left.test right.test);
@@ -38,6 +42,7 @@ both_part left right = record {
   nodes = capped (capped (left.nodes + right.nodes) + 1);
 }
 
+-- two tests of which either holds
 abbrev pub either_part : TestPart → TestPart → TestPart
 either_part left right = record {
   test = kept_test (capped (capped (left.nodes + right.nodes) + 1)) (q.Either left.test right.test);
@@ -45,20 +50,25 @@ either_part left right = record {
   nodes = capped (capped (left.nodes + right.nodes) + 1);
 }
 
+-- a comparison of the attribute of this name
 abbrev pub compared_part : List (List ℕ) → ℕ → List ℕ → Comparison → List ℕ → TestPart
 compared_part names at name comparison content =
     let found = number_of names name in record { test = compared (or_first found) comparison content; unknown = undeclared at found; nodes = 1 }
 
+-- a bare string
 abbrev pub pattern_part : ℕ → List ℕ → TestPart
 pattern_part default content = record { test = q.Pattern default (pattern_text content) false; unknown = None; nodes = 1 }
 
+-- the test that asks nothing
 abbrev pub no_test_part : TestPart
 no_test_part = record { test = q.Any; unknown = None; nodes = 1 }
 
+-- a test, or the one that asks nothing
 abbrev pub maybe_part : Option TestPart → TestPart
 maybe_part None = no_test_part
 maybe_part (Some test) = test
 
+-- a test of any rank is kept alike
 abbrev pub TestParts : TestRank → Type 0
 TestParts rank = TestPart
 
@@ -75,6 +85,7 @@ token_part_ways names default = record {
   either = either_part;
 }
 
+-- how tests inside tags are built: without bare strings
 abbrev pub tag_part_ways : List (List ℕ) → TestWays TestParts
 tag_part_ways names = record {
   compared = compared_part names;
@@ -97,9 +108,11 @@ pub record Part : Type 0 where
   pub nodes : ℕ
   pub size : ℕ
 
+-- no label has a place
 abbrev pub no_labels : List (Option ℕ)
 no_labels = None ∷ None ∷ None ∷ None ∷ None ∷ None ∷ None ∷ None ∷ None ∷ []
 
+-- the place of each label where there is only this one
 abbrev pub label_places_of : Label → List (Option ℕ)
 label_places_of label = at_label 1 label ∷ at_label 2 label ∷ at_label 3 label ∷ at_label 4 label ∷ at_label 5 label ∷ at_label 6 label ∷ at_label 7 label ∷ at_label 8 label
     ∷ at_label 9 label ∷ []
@@ -108,10 +121,12 @@ label_places_of label = at_label 1 label ∷ at_label 2 label ∷ at_label 3 lab
 abbrev pub first_at : ℕ → List (Option ℕ) → List (Option ℕ) → Option ℕ
 first_at i places others = first_of (slice_index_or places i None) (slice_index_or others i None)
 
+-- the first place of each of the nine labels in two parts
 abbrev pub firsts : List (Option ℕ) → List (Option ℕ) → List (Option ℕ)
 firsts places others = first_at 0 places others ∷ first_at 1 places others ∷ first_at 2 places others ∷ first_at 3 places others ∷ first_at 4 places others
     ∷ first_at 5 places others ∷ first_at 6 places others ∷ first_at 7 places others ∷ first_at 8 places others ∷ []
 
+-- a token that meets a test, under a label or none
 abbrev pub token_part : Label → TestPart → Part
 token_part label test = record {
   expr = kept_expr (capped (test.nodes + 1)) (q.TokenTest (label_number label) test.test);
@@ -123,6 +138,7 @@ token_part label test = record {
   size = 1;
 }
 
+-- the begin of an instance
 abbrev pub begin_part : List (List ℕ) → ℕ → List ℕ → TestPart → Part
 begin_part kinds at name test =
     let found = number_of kinds name in record {
@@ -135,6 +151,7 @@ begin_part kinds at name test =
       size = 1;
     }
 
+-- a whole instance
 abbrev pub whole_part : List (List ℕ) → ℕ → List ℕ → TestPart → Part
 whole_part kinds at name test =
     let found = number_of kinds name in record {
@@ -147,6 +164,7 @@ whole_part kinds at name test =
       size = 1;
     }
 
+-- the end of an instance
 abbrev pub end_part : List (List ℕ) → ℕ → List ℕ → Part
 end_part kinds at name =
     let found = number_of kinds name in record {
@@ -171,9 +189,11 @@ repeats_part inner turns most turned = record {
   size = capped (inner.size * max 1 most);
 }
 
+-- an expression repeated
 abbrev pub repeated_part : Part → Repetition → Part
 repeated_part inner repetition = repeats_part inner (least_turns repetition) (most_turns repetition) (turned_round repetition)
 
+-- one expression after another
 abbrev pub then_part : Part → Part → Part
 then_part left right = record {
   expr = kept_expr (capped (capped (left.nodes + right.nodes) + 1)) (q.Seq left.expr right.expr);
@@ -185,6 +205,7 @@ then_part left right = record {
   size = capped (left.size + right.size);
 }
 
+-- either of two expressions
 abbrev pub or_part : Part → Part → Part
 or_part left right = record {
   expr = kept_expr (capped (capped (left.nodes + right.nodes) + 1)) (q.Choice left.expr right.expr);
@@ -196,6 +217,7 @@ or_part left right = record {
   size = capped (left.size + right.size);
 }
 
+-- an expression of any rank is kept alike
 abbrev pub Parts : Rank → Type 0
 Parts rank = Part
 
@@ -218,10 +240,12 @@ pub record FiltersPart : Type 0 where
   pub nodes : ℕ
   pub size : ℕ
 
+-- an operand, or filters
 abbrev pub FilterParts : Filtered → Type 0
 FilterParts Operand = OperandPart
 FilterParts Filters = FiltersPart
 
+-- an operand without filters
 abbrev pub plain_part : Part → OperandPart
 plain_part choice = record {
   head = choice.expr;
@@ -233,6 +257,7 @@ plain_part choice = record {
   size = choice.size;
 }
 
+-- an operand with filters
 abbrev pub with_filters_part : Part → FiltersPart → OperandPart
 with_filters_part choice filters = record {
   head = kept_expr (capped (choice.nodes + filters.nodes)) choice.expr;
@@ -244,9 +269,11 @@ with_filters_part choice filters = record {
   size = capped (choice.size + filters.size);
 }
 
+-- a filter of this kind with its operand
 abbrev pub filter_of : q.FilterKind → OperandPart → FilterOf
 filter_of kind operand = record { kind = kind; head = operand.head; filters = operand.filters }
 
+-- the first filter, of this kind
 abbrev pub filter_by : q.FilterKind → OperandPart → FiltersPart
 filter_by kind operand = record {
   filters = kept (capped (operand.nodes + 1)) [] (filter_of kind operand ∷ []);
@@ -257,6 +284,7 @@ filter_by kind operand = record {
   size = operand.size;
 }
 
+-- one filter more, of this kind
 abbrev pub more_by : FiltersPart → q.FilterKind → OperandPart → FiltersPart
 more_by filters kind operand = record {
   filters = kept (capped (capped (filters.nodes + operand.nodes) + 1)) [] (filters.filters ++ filter_of kind operand ∷ []);
@@ -267,9 +295,11 @@ more_by filters kind operand = record {
   size = capped (filters.size + operand.size);
 }
 
+-- a filter by an op and its operand
 abbrev pub filter_part : Op → OperandPart → FiltersPart
 filter_part op operand = filter_by (kind_of op) operand
 
+-- one filter more, by an op and its operand
 abbrev pub more_part : FiltersPart → Op → OperandPart → FiltersPart
 more_part filters op operand = more_by filters (kind_of op) operand
 
@@ -280,6 +310,7 @@ pub record CondsPart : Type 0 where
   pub unknown : Option ℕ
   pub nodes : ℕ
 
+-- one condition more
 abbrev pub cond_part : Registry → Part → CondsPart → CondTree → CondsPart
 cond_part registry head conds c = record {
   conds = conds.conds ++ cond_of registry c ∷ [];
@@ -292,16 +323,19 @@ cond_part registry head conds c = record {
 abbrev pub great : ℕ → ℕ → Bool
 great nodes size = nat_lt 256 nodes || nat_lt 4096 size
 
+-- what is said of a query without filters
 abbrev pub asks_part : Part → CondsPart → Result q.Query Refusal
 asks_part head conds = judged (worst head.range (least_of head.label conds.label)) (first_of head.unknown conds.unknown) (great (capped (head.nodes + conds.nodes)) head.size)
     (record { head = head.expr; filters = q.NoMore; conds = conds.conds })
 
+-- what is said of a query with filters
 abbrev pub asks_filtered_part : Part → FiltersPart → CondsPart → Result q.Query Refusal
 asks_filtered_part head filters conds = judged (worst (least_of head.range filters.range) (least_of (least_of head.label filters.label) conds.label))
     (first_of (first_of head.unknown filters.unknown) conds.unknown)
     (great (capped (head.nodes + capped (filters.nodes + conds.nodes))) (capped (head.size + filters.size)))
     (record { head = head.expr; filters = chained filters.filters; conds = conds.conds })
 
+-- how the parser builds each part of a query from those before it
 abbrev pub part_ways : Registry → ℕ → Ways (λ of. TestParts) Parts FilterParts CondsPart (Result q.Query Refusal)
 part_ways registry default = record {
   token_tests = token_part_ways (attr_names registry.attrs) default;

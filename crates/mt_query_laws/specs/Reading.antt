@@ -8,9 +8,11 @@ use Rattle.mt_query_laws.specs.Machine.{and_then}
 use Rattle.mt_query_laws.specs.Parts.{TestParts, Parts, FilterParts, CondsPart, part_ways}
 use Rattle.mt_query_laws.specs.Exprs.{State, start, step, finish}
 
+-- a query, or why the text is none
 abbrev pub Answer : Type 0
 Answer = Result Query Refusal
 
+-- where the parser stands, with the parts that it has read
 abbrev pub PartState : Type 0
 PartState = State (λ of. TestParts) Parts FilterParts CondsPart
 

@@ -98,6 +98,7 @@ test_unknown names (tree.Both left right) = first_of (test_unknown names left) (
 test_unknown names (tree.Sole inner) = test_unknown names inner
 test_unknown names (tree.Either left right) = first_of (test_unknown names left) (test_unknown names right)
 
+-- the same where there may be no test
 abbrev pub maybe_unknown : List (List ℕ) → {of : Tested} → Option (TestTree of tree.Whole) → Option ℕ
 maybe_unknown names None = None
 maybe_unknown names (Some test) = test_unknown names test
@@ -113,6 +114,7 @@ least_turns (Exactly at n_at n) = n
 least_turns (From at n_at n) = n
 least_turns (Between at n_at n m_at m) = n
 
+-- how often an atom may stand at most
 abbrev pub most_turns : Repetition → ℕ
 most_turns Star = 100
 most_turns Plus = 100
@@ -125,6 +127,7 @@ most_turns (Between at n_at n m_at m) = m
 abbrev pub kept_label : ℕ → ℕ
 kept_label number = cond (nat_lt number 10) number 0
 
+-- a label as a query keeps it; 0 where there is none
 abbrev pub label_number : Label → ℕ
 label_number NoLabel = 0
 label_number (Labelled at number) = kept_label number
@@ -185,6 +188,7 @@ range_fault (tree.Or left right) = least_of (range_fault left) (range_fault righ
 abbrev pub labels : List ℕ
 labels = 1 ∷ 2 ∷ 3 ∷ 4 ∷ 5 ∷ 6 ∷ 7 ∷ 8 ∷ 9 ∷ []
 
+-- the place of a label where it has this number
 abbrev pub at_label : ℕ → Label → Option ℕ
 at_label n NoLabel = None
 at_label n (Labelled at number) = cond (nat_eq number n) (Some at) None
@@ -238,6 +242,7 @@ label_fault (tree.Or left right) = least_of (label_fault left) (label_fault righ
 
 -- ## Filters
 
+-- the kind of filter that an op is
 abbrev pub kind_of : Op → q.FilterKind
 kind_of (Within at) = q.Within
 kind_of (NotWithin at) = q.NotWithin
@@ -260,6 +265,7 @@ abbrev pub FilterMeaning : Filtered → Type 0
 FilterMeaning Operand = q.Expr × q.Filters
 FilterMeaning Filters = List FilterOf
 
+-- the operand or the filters that the productions stand for
 abbrev pub filters_of : Registry → (default : ℕ) → {sort : Filtered} → FilterTree sort → FilterMeaning sort
 filters_of registry default (tree.Plain choice) = (expr_of registry default choice, q.NoMore)
 filters_of registry default (tree.WithFilters choice filters) = (expr_of registry default choice, chained (filters_of registry default filters))
@@ -267,12 +273,14 @@ filters_of registry default (tree.Filter op operand) = let o = filters_of regist
 filters_of registry default (tree.More filters op operand) =
     let o = filters_of registry default operand in filters_of registry default filters ++ record { kind = kind_of op; head = o.0; filters = o.1 } ∷ []
 
+-- the same in operands and filters
 abbrev pub filters_unknown : Registry → {sort : Filtered} → FilterTree sort → Option ℕ
 filters_unknown registry (tree.Plain choice) = expr_unknown registry choice
 filters_unknown registry (tree.WithFilters choice filters) = first_of (expr_unknown registry choice) (filters_unknown registry filters)
 filters_unknown registry (tree.Filter op operand) = filters_unknown registry operand
 filters_unknown registry (tree.More filters op operand) = first_of (filters_unknown registry filters) (filters_unknown registry operand)
 
+-- the same in operands and filters
 abbrev pub filters_range_fault : {sort : Filtered} → FilterTree sort → Option ℕ
 filters_range_fault (tree.Plain choice) = range_fault choice
 filters_range_fault (tree.WithFilters choice filters) = least_of (range_fault choice) (filters_range_fault filters)
@@ -288,6 +296,7 @@ filters_label_fault (tree.More filters op operand) = least_of (filters_label_fau
 
 -- ## Conditions
 
+-- the condition that the productions stand for
 abbrev pub cond_of : Registry → CondTree → q.Cond
 cond_of registry c = record {
   left = kept_label c.left;
@@ -297,6 +306,7 @@ cond_of registry c = record {
   right_attr = or_first (number_of (attr_names registry.attrs) c.right_name);
 }
 
+-- the same in one condition
 abbrev pub cond_unknown : Registry → CondTree → Option ℕ
 cond_unknown registry c = first_of (undeclared c.left_name_at (number_of (attr_names registry.attrs) c.left_name)) (undeclared c.right_name_at (number_of (attr_names registry.attrs) c.right_name))
 
@@ -313,16 +323,19 @@ missing_label places at number = cond (has_label 1 places number) None (Some at)
 abbrev pub cond_label_fault : List (Option ℕ) → CondTree → Option ℕ
 cond_label_fault places c = least_of (missing_label places c.left_at c.left) (missing_label places c.right_at c.right)
 
+-- the least place of a label at fault in conditions, where the head has its labels at these places
 abbrev pub conds_label_fault : List (Option ℕ) → List CondTree → Option ℕ
 conds_label_fault places [] = None
 conds_label_fault places (c ∷ cs) = least_of (cond_label_fault places c) (conds_label_fault places cs)
 
+-- the place of the first name in conditions that is not declared
 abbrev pub conds_unknown : Registry → List CondTree → Option ℕ
 conds_unknown registry [] = None
 conds_unknown registry (c ∷ cs) = first_of (cond_unknown registry c) (conds_unknown registry cs)
 
 -- ## Queries
 
+-- the query that the productions stand for
 abbrev pub query_of : Registry → (default : ℕ) → QueryTree → q.Query
 query_of registry default (Asks head conds) = record { head = expr_of registry default head; filters = q.NoMore; conds = map (cond_of registry) conds }
 query_of registry default (AsksFiltered head filters conds) = record {
@@ -331,14 +344,17 @@ query_of registry default (AsksFiltered head filters conds) = record {
   conds = map (cond_of registry) conds;
 }
 
+-- the place of the first name in a query that is not declared
 abbrev pub query_unknown : Registry → QueryTree → Option ℕ
 query_unknown registry (Asks head conds) = first_of (expr_unknown registry head) (conds_unknown registry conds)
 query_unknown registry (AsksFiltered head filters conds) = first_of (first_of (expr_unknown registry head) (filters_unknown registry filters)) (conds_unknown registry conds)
 
+-- the least place of a `{` with the greater number first, in a query
 abbrev pub query_range_fault : QueryTree → Option ℕ
 query_range_fault (Asks head conds) = range_fault head
 query_range_fault (AsksFiltered head filters conds) = least_of (range_fault head) (filters_range_fault filters)
 
+-- the least place of a label at fault, in a query
 abbrev pub query_label_fault : QueryTree → Option ℕ
 query_label_fault (Asks head conds) = least_of (label_fault head) (conds_label_fault (label_places head) conds)
 query_label_fault (AsksFiltered head filters conds) = least_of (least_of (label_fault head) (filters_label_fault filters)) (conds_label_fault (label_places head) conds)

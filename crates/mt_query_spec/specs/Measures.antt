@@ -40,6 +40,7 @@ expr_size (Seq left right) = expr_size left + expr_size right
 expr_size (Choice left right) = expr_size left + expr_size right
 expr_size (Repeat inner least most) = expr_size inner * max 1 most
 
+-- the sizes of all operands of filters together
 abbrev pub filter_size : Filters → ℕ
 filter_size NoMore = 0
 filter_size (More kind head filters others) = expr_size head + (filter_size filters + filter_size others)

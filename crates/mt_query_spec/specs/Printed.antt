@@ -16,6 +16,7 @@ abbrev pub escaped : (ℕ → Bool) → List ℕ → List ℕ
 escaped marked [] = []
 escaped marked (b ∷ rest) = cond (marked b) (92 ∷ b ∷ escaped marked rest) (b ∷ escaped marked rest)
 
+-- a text between quotes, with a backslash before each byte of some kind
 abbrev pub quoted : (ℕ → Bool) → List ℕ → List ℕ
 quoted marked text = codes "\"" ++ (escaped marked text ++ codes "\"")
 
@@ -66,6 +67,7 @@ abbrev pub has_test : Test → Bool
 has_test Any = false
 has_test _ = true
 
+-- the begin of a tag: its name, and its test where it has one
 abbrev pub printed_tag : (name : List ℕ) (attrs : List (List ℕ)) → Test → List ℕ
 printed_tag name attrs test = codes "<" ++ (name ++ (cond (has_test test) (codes " ") [] ++ printed_test attrs tree.Whole test))
 
@@ -90,6 +92,7 @@ brackets_choice Item = true
 brackets_choice Sequence = true
 brackets_choice tree.Choice = false
 
+-- the braces of a repetition
 abbrev pub printed_turns : (least most : ℕ) → List ℕ
 printed_turns least most = codes "{" ++ (decimal least ++ (codes "," ++ (decimal most ++ codes "}")))
 
@@ -105,12 +108,14 @@ printed_expr registry rank (Repeat inner least most) = bracketed (brackets_repea
 
 -- ## Filters and conditions
 
+-- the word of a filter, with blanks round it
 abbrev pub printed_kind : FilterKind → List ℕ
 printed_kind Within = codes " within "
 printed_kind NotWithin = codes " !within "
 printed_kind Containing = codes " containing "
 printed_kind NotContaining = codes " !containing "
 
+-- whether there is a filter
 abbrev pub has_filters : Filters → Bool
 has_filters NoMore = false
 has_filters (More kind head filters others) = true
@@ -125,14 +130,17 @@ printed_filters registry (More kind head filters others) =
 abbrev pub printed_side : (names : List (List ℕ)) (label attr : ℕ) → List ℕ
 printed_side names label attr = decimal label ++ (codes "." ++ name_at names attr)
 
+-- a condition: its sides with the sign between them
 abbrev pub printed_cond : (names : List (List ℕ)) → Cond → List ℕ
 printed_cond names c = codes " & " ++ (printed_side names c.left c.left_attr ++ (cond c.equal (codes " = ") (codes " != ") ++ printed_side names c.right c.right_attr))
 
+-- conditions, one behind the other
 abbrev pub printed_conds : (names : List (List ℕ)) → List Cond → List ℕ
 printed_conds names [] = []
 printed_conds names (c ∷ conds) = printed_cond names c ++ printed_conds names conds
 
 -- ## Queries
 
+-- the text of a query: its head, its filters and its conditions
 abbrev pub printed : Registry → Query → List ℕ
 printed registry query = printed_expr registry tree.Choice query.head ++ (printed_filters registry query.filters ++ printed_conds (attr_names registry.attrs) query.conds)

@@ -80,6 +80,7 @@ long_sign b rest =
 abbrev pub Lexeme : Type 0
 Lexeme = Result (Token × ℕ) Unlexed
 
+-- the `{` or the sign that begins at a byte, the longest one, or that no token begins there
 abbrev pub sign_at : ℕ → ℕ → List ℕ → Lexeme
 sign_at at b rest = cond (b == 123) (Ok (OpenCurly at, 0)) (elim (long_sign b rest) [
   | Some found ↦ Ok (Mark found.0, found.1)
@@ -107,6 +108,7 @@ pub record Tokens : Type 0 where
   pub tokens : List (ℕ × Token)
   pub stop : Option (ℕ × Unlexed)
 
+-- these tokens with one before them
 abbrev pub preceded : ℕ × Token → Tokens → Tokens
 preceded first others = record { tokens = first ∷ others.tokens; stop = others.stop }
 
@@ -119,6 +121,7 @@ tokens_from at zero (b ∷ rest) = cond (is_blank b) (tokens_from (suc at) zero 
   | Err why ↦ record { tokens = []; stop = Some (at, why) }
 ])
 
+-- the tokens of a text
 abbrev pub tokens_of : List ℕ → Tokens
 tokens_of text = tokens_from 0 0 text
 
@@ -137,6 +140,7 @@ nested before b = cond before.in_string
     (cond (b == 40) (record before { opened = before.opened + 1; most = max before.most (before.opened + 1) })
     (cond (b == 41) (record before { opened = before.opened - 1 }) before)))
 
+-- behind all these bytes
 abbrev pub nesting_from : Nesting → List ℕ → Nesting
 nesting_from before [] = before
 nesting_from before (b ∷ rest) = nesting_from (nested before b) rest

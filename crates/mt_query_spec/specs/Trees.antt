@@ -15,6 +15,7 @@ pub data Comparison : Type 0 where
   Equals : Comparison
   Differs : Comparison
 
+-- the sign of a comparison
 abbrev pub comparison_sign : Comparison → Sign
 comparison_sign Accepts = t.Is
 comparison_sign Refuses = t.IsNot
@@ -41,6 +42,7 @@ pub data TestTree : Tested → TestRank → Type 0 where
   Sole : {of : Tested} → TestTree of Conjunction → TestTree of Whole
   Either : {of : Tested} → TestTree of Whole → TestTree of Conjunction → TestTree of Whole
 
+-- the tokens that write a test
 unfoldable pub test_tokens : {of : Tested} {rank : TestRank} → TestTree of rank → List Token
 test_tokens (Compared at name comparison content) = Word at name ∷ Mark (comparison_sign comparison) ∷ Quoted content ∷ []
 test_tokens (Bare content) = Quoted content ∷ []
@@ -61,6 +63,7 @@ pub data Label : Type 0 where
   NoLabel : Label
   Labelled : (at number : ℕ) → Label
 
+-- the tokens that write a label
 abbrev pub label_tokens : Label → List Token
 label_tokens NoLabel = []
 label_tokens (Labelled at number) = Number at number ∷ Mark t.Colon ∷ []
@@ -74,6 +77,7 @@ pub data Repetition : Type 0 where
   From : (at n_at n : ℕ) → Repetition
   Between : (at n_at n m_at m : ℕ) → Repetition
 
+-- the tokens that write a repetition
 abbrev pub repetition_tokens : Repetition → List Token
 repetition_tokens Star = Mark t.Star ∷ []
 repetition_tokens Plus = Mark t.Plus ∷ []
@@ -109,6 +113,7 @@ pub data ExprTree : Rank → Type 0 where
   Branch : ExprTree Sequence → ExprTree Choice
   Or : ExprTree Choice → ExprTree Sequence → ExprTree Choice
 
+-- the tokens that write an expression
 unfoldable pub expr_tokens : {rank : Rank} → ExprTree rank → List Token
 expr_tokens (TokenTest label test) = label_tokens label ++ Mark t.OpenSquare ∷ (maybe_tokens test ++ Mark t.CloseSquare ∷ [])
 expr_tokens (String label content) = label_tokens label ++ Quoted content ∷ []
@@ -130,6 +135,7 @@ pub data Op : Type 0 where
   Containing : (at : ℕ) → Op
   NotContaining : (at : ℕ) → Op
 
+-- the tokens that write an op
 abbrev pub op_tokens : Op → List Token
 op_tokens (Within at) = Word at (codes "within") ∷ []
 op_tokens (NotWithin at) = Mark t.Bang ∷ Word at (codes "within") ∷ []
@@ -148,6 +154,7 @@ pub data FilterTree : Filtered → Type 0 where
   Filter : (op : Op) → FilterTree Operand → FilterTree Filters
   More : FilterTree Filters → (op : Op) → FilterTree Operand → FilterTree Filters
 
+-- the tokens that write an operand or filters
 unfoldable pub filter_tokens : {sort : Filtered} → FilterTree sort → List Token
 filter_tokens (Plain choice) = expr_tokens choice
 filter_tokens (WithFilters choice filters) = Mark t.OpenRound ∷ (expr_tokens choice ++ (filter_tokens filters ++ Mark t.CloseRound ∷ []))
@@ -166,14 +173,17 @@ pub record CondTree : Type 0 where
   pub right_name_at : ℕ
   pub right_name : List ℕ
 
+-- the sign between the sides of a condition
 abbrev pub equality_sign : Bool → Sign
 equality_sign true = t.Is
 equality_sign false = t.IsNot
 
+-- the tokens that write a condition
 abbrev pub cond_tokens : CondTree → List Token
 cond_tokens c = Mark t.And ∷ Number c.left_at c.left ∷ Mark t.Dot ∷ Word c.left_name_at c.left_name ∷ Mark (equality_sign c.equal) ∷ Number c.right_at c.right ∷ Mark t.Dot
     ∷ Word c.right_name_at c.right_name ∷ []
 
+-- the tokens that write conditions
 abbrev pub conds_tokens : List CondTree → List Token
 conds_tokens [] = []
 conds_tokens (c ∷ cs) = cond_tokens c ++ conds_tokens cs
@@ -183,6 +193,7 @@ pub data QueryTree : Type 0 where
   Asks : ExprTree Choice → (conds : List CondTree) → QueryTree
   AsksFiltered : ExprTree Choice → FilterTree Filters → (conds : List CondTree) → QueryTree
 
+-- the tokens that write a query
 abbrev pub query_tokens : QueryTree → List Token
 query_tokens (Asks head conds) = expr_tokens head ++ conds_tokens conds
 query_tokens (AsksFiltered head filters conds) = expr_tokens head ++ (filter_tokens filters ++ conds_tokens conds)

@@ -41,6 +41,7 @@ has_label n (Seq left right) = has_label n left || has_label n right
 has_label n (Choice left right) = has_label n left || has_label n right
 has_label n (Repeat inner least most) = has_label n inner
 
+-- no label stands in the expression
 abbrev pub HasNoLabel : Expr → Type 0
 HasNoLabel expr = (n : ℕ) → has_label n expr ≡ false
 
@@ -66,6 +67,7 @@ pub record ValidCond (registry : Registry) (head : Expr) (c : Cond) : Type 0 whe
   pub right : has_label c.right head ≡ true
   pub right_attr : c.right_attr < length registry.attrs
 
+-- each condition is valid
 abbrev pub ValidConds : Registry → Expr → List Cond → Type 0
 ValidConds registry head [] = Unit {0}
 ValidConds registry head (c ∷ conds) = ValidCond registry head c × ValidConds registry head conds

@@ -35,6 +35,7 @@ pub record Begins (tokens : List Token) : Type 0 where
 abbrev pub is_too_long : List ℕ → Bool
 is_too_long text = nat_lt 4096 (length text) || nat_lt 32 (deepest text)
 
+-- why a text is refused at a place at which no token begins
 abbrev pub unlexed_cause : Unlexed → Cause
 unlexed_cause NoToken = NoTokenBegins
 unlexed_cause NoEnd = NoStringEnd

@@ -53,7 +53,7 @@ one_answer = record {
   baseless_or_faulty = λ mappers bytes line cause lacks fault. lacks.faultless line cause fault.here;
 }
 
--- a file that is read is refused for want of memory alone
+-- a file that is read is refused only where memory runs out
 pub only_memory : (mappers : List (List ℕ)) (bytes : List ℕ) (registry : Registry) (e : RegistryError) → ReadsRegistry mappers bytes registry → IsRefusal mappers bytes e → e ≡ error.NoMemory
 only_memory mappers bytes registry (error.Bad bad) read refused = absurd (read.faultless bad.line (registry_cause_of bad.cause) refused.here)
 only_memory mappers bytes registry error.NoAttribute read refused = absurd (one_answer.read_or_baseless mappers bytes registry read refused)

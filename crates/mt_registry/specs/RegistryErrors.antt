@@ -19,7 +19,7 @@ registry_cause_of cause.UnknownBase = UnknownBase
 abbrev pub bad_seen : BadLine → Blamed
 bad_seen bad = record { line = bad.line; cause = registry_cause_of bad.cause }
 
--- an error tells the first fault, that no base attribute is declared, or want of memory
+-- an error tells the first fault, that no base attribute is declared, or out of memory
 abbrev pub IsRefusal : List (List ℕ) → List ℕ → RegistryError → Type 0
 IsRefusal mappers bytes (error.Bad bad) = FirstRegistryFault mappers bytes bad.line (registry_cause_of bad.cause)
 IsRefusal mappers bytes error.NoAttribute = LacksBase mappers bytes

@@ -8,6 +8,7 @@ abbrev pub within_kind : (negated : Bool) → FilterKind
 within_kind false = Within
 within_kind true = NotWithin
 
+-- the same of `containing`
 abbrev pub containing_kind : (negated : Bool) → FilterKind
 containing_kind false = Containing
 containing_kind true = NotContaining

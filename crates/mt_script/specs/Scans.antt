@@ -62,7 +62,7 @@ Gives ended old More new = (ended ≡ false) × Begins ended old [] new × IsRes
 Gives ended old End new = (ended ≡ true) × Begins ended old [] new × IsRest ended new
 Gives ended old NoMemory new = new ≡ old
 
--- this holds, or memory was wanted
+-- this holds, or memory ran out
 abbrev pub StarvesOr : Type 0 → Next → Type 0
 StarvesOr P (Command command) = P
 StarvesOr P Bad = P

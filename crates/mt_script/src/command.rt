@@ -145,6 +145,6 @@ pub enum Next {
     More,
     /// The input has ended and nothing is left.
     End,
-    /// Memory was wanted. The reader is as it was.
+    /// Out of memory. The reader is as it was.
     NoMemory,
 }

@@ -14,7 +14,7 @@ use std::alloc::Global;
 pub enum Unread {
     /// Its words have no form of a command.
     NoCommand,
-    /// Memory was wanted.
+    /// Out of memory.
     NoMemory,
 }
 

@@ -1,4 +1,4 @@
--- Calls of mappers, whether memory was wanted half-way or not.
+-- Calls of mappers, whether memory ran out half-way or not.
 use Rattle.std.proofs.Common.{◌≡◌, ℕ, ◌+◌, ◌<◌, ◌≤◌, List, length, get_or, Result, Ok, Err, refl, sym, subst, arith}
 use Rattle.std.specs.Result.{IsErr}
 use Rattle.mt_mapper.specs.Calls.{counted, CountedAtMost}
@@ -21,7 +21,7 @@ pub called_all : {T E : Type 0} (due old new : ℕ) (answer : Result T E) → ne
 called_all due old new (Ok _) e = record { all = e; halfway = tt }
 called_all due old new (Err _) e = record { all = tt; halfway = record { more = due; few = omega arith; are = e } }
 
--- at most so many of them, and then memory was wanted
+-- at most so many of them, and then memory ran out
 pub called_part : {T E : Type 0} (due old new : ℕ) (answer : Result T E) → IsErr answer → CountedAtMost old due new → Called due old new answer
 called_part due old new (Ok _) is h = cc
 called_part due old new (Err _) is h = record { all = tt; halfway = h }

@@ -37,7 +37,7 @@ module _ (images : List ℕ → List ℕ → List ℕ) (attrs : List Attr) (old 
         ∙ counted_more (get_or first m 0) (calls_due names old (take number attrs) m) (calls_of names now m attr.mapper attr.base) ∙ ap (counted (get_or first m 0)) (sym due);
   }
 
-  -- where memory is wanted while this attribute is mapped
+  -- where memory runs out while this attribute is mapped
   pub calls_part : {T U E : Type 0} (names : List (List ℕ)) (first before after : List ℕ) (its : Result T E) (error : E) (answer : Result U E) → its ≡ Err error → IsErr answer → AreCounted (calls_due names old (take number attrs)) first before →
       AreCalled (λ m. calls_of names now m attr.mapper attr.base) before after its → AreCalled (calls_due names old attrs) first after answer
   calls_part names first before after its error answer e is_err g f = record {

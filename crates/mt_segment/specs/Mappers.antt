@@ -39,7 +39,7 @@ calls_of names tables mapper name (Some base) = if number_of names name == mappe
 abbrev pub calls_due : List (List ℕ) → List AttrTables → List Attr → ℕ → ℕ
 calls_due names tables attrs mapper = sum (map (λ attr. calls_of names tables mapper attr.mapper attr.base) attrs)
 
--- What calls of a mapper do to its count: it is called so often, or where memory is wanted half-way at most so often.
+-- What calls of a mapper do to its count: it is called so often, or where memory runs out half-way at most so often.
 pub record Called {T E : Type 0} (due old new : ℕ) (answer : Result T E) : Type 0 where
   pub all : OnOk answer (new ≡ counted old due)
   pub halfway : OnErr answer (CountedAtMost old due new)

@@ -23,7 +23,7 @@ use std::alloc::Global;
 
 impl Segment {
     /// The segment of these texts under a registry, by the mappers that it names. Each mapped attribute calls its mapper once for each distinct value of its base.
-    /// Where memory is wanted half-way, no mapper was called more often than that.
+    /// Where memory runs out half-way, no mapper was called more often than that.
     pub fn build<M: Mapper>(
         alloc: Global,
         texts: &[Text],

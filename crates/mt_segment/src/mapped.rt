@@ -112,7 +112,7 @@ fn tables_of(
     })
 }
 
-/// The images of the values of a lexicon. The mapper is called once for each; where memory is wanted half-way, those calls are counted that were made.
+/// The images of the values of a lexicon. The mapper is called once for each; where memory runs out half-way, those calls are counted that were made.
 fn number_images<M: Mapper>(
     alloc: Global,
     lexicon: &Lexicon,

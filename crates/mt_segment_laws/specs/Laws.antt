@@ -29,6 +29,7 @@ pub record AreWhole (tables : Tables) : Type 0 where
   pub postings : (attr : ℕ) → attr < length tables.attrs → length (tables_at tables.attrs attr).postings ≡ length (tables_at tables.attrs attr).lexicon
   pub within : (attr place : ℕ) → attr < length tables.attrs → place < token_count tables → number_at tables attr place < length (tables_at tables.attrs attr).lexicon
 
+-- the tables of texts are whole
 abbrev pub TablesAreWhole : Type 0
 TablesAreWhole = (tables : Tables) → AreTables tables → AreWhole tables
 
@@ -46,6 +47,7 @@ pub record AreInstancesIn (kind : ℕ) (text : Text) (spans : List StructSpan) :
   pub inside : All (λ span. (span.begin ≤ span.end) × (span.end ≤ length text.tokens)) spans
   pub ordered : AllPairs (λ span later. span.end ≤ later.begin) spans
 
+-- the instances that tables tell are those of the texts
 abbrev pub InstancesLieInTexts : Type 0
 InstancesLieInTexts = (images : List ℕ → List ℕ → List ℕ) (registry : Registry) (corpus : List Text) (tables : Tables) → ValidCorpus registry corpus → AreTablesOf images registry corpus tables →
     (kind number : ℕ) (text : Text) → kind < length tables.structs → slice_get corpus number ≡ Some text →

@@ -84,6 +84,7 @@ tables_at attrs number = slice_index_or attrs number (record { base = None; lexi
 abbrev pub heads_of : List Text → List (List ℕ × ℕ)
 heads_of corpus = map (λ text. (text.name, length text.tokens)) corpus
 
+-- whether an instance is of a kind
 abbrev pub is_of_kind : ℕ → StructSpan → Bool
 is_of_kind kind span = span.kind == kind
 

@@ -20,11 +20,11 @@ fn main(rt: HostRuntime) -> io::Result<()> {
     let mut cases = Vec::new(rt.alloc());
     for line in BufReader::new(rt.alloc(), rt.stdin())?.lines(rt.alloc()) {
         if take_line(rt.alloc(), &mut cases, line?.as_str()).is_err() {
-            return println!(rt; "memory was wanted");
+            return println!(rt; "out of memory");
         }
     }
     match show::cases(rt.alloc(), cases.as_slice()) {
         Ok(text) => print!(rt; "{text}"),
-        Err(NoMemory) => println!(rt; "memory was wanted"),
+        Err(NoMemory) => println!(rt; "out of memory"),
     }
 }

@@ -21,6 +21,7 @@ pub data Expr : Type 0 where
   Choice : (left right : Expr) → Expr
   Repeat : (inner : Expr) (least most : ℕ) → Expr
 
+-- what a filter asks of a span: that it lies in a span of the operand or in none, that it holds one or none
 pub data FilterKind : Type 0 where
   Within : FilterKind
   NotWithin : FilterKind
@@ -40,6 +41,7 @@ pub record Cond : Type 0 where
   pub right : ℕ
   pub right_attr : ℕ
 
+-- a query: its head, what filters the head, and conditions on the labels of the head
 pub record Query : Type 0 where
   pub head : Expr
   pub filters : Filters
@@ -47,6 +49,8 @@ pub record Query : Type 0 where
 
 -- ## Sketch grammars
 
+-- what the instances of a relation are: pairs; pairs under two names, one for each direction; pairs in both directions; pairs whose name has a third word; single
+-- tokens
 pub data RelationKind : Type 0 where
   Plain : RelationKind
   Dual : RelationKind
@@ -61,5 +65,6 @@ pub record Relation : Type 0 where
   pub second : List ℕ
   pub queries : List Query
 
+-- a sketch grammar: its relations in the order of its headings
 pub record Grammar : Type 0 where
   pub relations : List Relation

@@ -47,6 +47,7 @@ AreDistinct names = AllPairs (λ name other. name ≢ other) names
 abbrev pub attr_names : List Attr → List (List ℕ)
 attr_names attrs = map (λ attr. attr.name) attrs
 
+-- the names of kinds of structures
 abbrev pub kind_names : List Kind → List (List ℕ)
 kind_names kinds = map (λ kind. kind.name) kinds
 

@@ -57,6 +57,7 @@ pub record ValidValue (value : List ℕ) : Type 0 where
   pub short : length value ≤ value_bytes_limit
   pub plain : All (λ b. (b ≢ 10) × (b ≢ 9)) value
 
+-- a token has one valid value for each base attribute
 pub record ValidToken (registry : Registry) (token : Token) : Type 0 where
   pub count : length token.values ≡ base_count registry.attrs
   pub each : All ValidValue token.values
@@ -78,6 +79,7 @@ ComesBefore span later = (span.kind < later.kind) ⊎ ((span.kind ≡ later.kind
 abbrev pub text_tokens_limit : ℕ
 text_tokens_limit = 1048576
 
+-- a text is valid: its name, its tokens and its instances are, there are not too many tokens, and the instances stand in their order
 pub record ValidText (registry : Registry) (text : Text) : Type 0 where
   pub named : IsName text.name
   pub short : length text.tokens ≤ text_tokens_limit
@@ -89,6 +91,7 @@ pub record ValidText (registry : Registry) (text : Text) : Type 0 where
 abbrev pub corpus_texts_limit : ℕ
 corpus_texts_limit = 65536
 
+-- the most tokens of all texts of a corpus together
 abbrev pub corpus_tokens_limit : ℕ
 corpus_tokens_limit = 4194304
 
@@ -96,6 +99,7 @@ corpus_tokens_limit = 4194304
 abbrev pub total_tokens : List Text → ℕ
 total_tokens corpus = sum (map (λ text. length text.tokens) corpus)
 
+-- texts are a valid corpus: each is valid, their names differ, and there are not too many of them or of their tokens
 pub record ValidCorpus (registry : Registry) (corpus : List Text) : Type 0 where
   pub few : length corpus ≤ corpus_texts_limit
   pub short : total_tokens corpus ≤ corpus_tokens_limit
