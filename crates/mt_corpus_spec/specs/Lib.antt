@@ -1,2 +1,4 @@
 pub mod Groups
 pub mod Images
+pub mod Segments
+pub mod Decoded
