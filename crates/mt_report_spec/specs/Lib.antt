@@ -1,0 +1,4 @@
+pub mod Held
+pub mod Lines
+pub mod Near
+pub mod Counts

@@ -1,0 +1,2 @@
+//! Definitions: the lines of a concordance, and the texts of frequencies and collocations.
+#![tactic(auto)]
