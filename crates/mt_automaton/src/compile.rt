@@ -170,6 +170,13 @@ impl Automaton {
         let part = compiled(alloc, expr, &mut numbered)?;
         Ok(Automaton { part })
     }
+
+    /// The part of the expression. What it matches is what the expression matches (`automaton_matches`).
+    pub fn part(&self) -> &Labelled
+        ensures { result.now ≡ self.now.part }
+    {
+        &self.part
+    }
 }
 
 /// The part of an automaton matches what its expression matches, in each text that is seen for the expression.

@@ -1,0 +1,9 @@
+pub mod Bits
+pub mod Labels
+pub mod Tabled
+pub mod Matches
+pub mod Forward
+pub mod Meant
+pub mod Turning
+pub mod Whole
+pub mod Listed

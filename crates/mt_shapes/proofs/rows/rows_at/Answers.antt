@@ -1,0 +1,65 @@
+use Rattle.std.proofs.Common.{◌∙◌, ◌≡◌, ◌+◌, ◌<◌, length, refl, sym, ap, subst, arith}
+use Rattle.std.proofs.lemmas.List.{get_or_read}
+use Rattle.mt_places.specs.Places.{In}
+use Rattle.mt_rows.specs.Appends.{Appends}
+use Rattle.mt_shapes.specs.declared.table.Entry.{Entry}
+use Rattle.mt_shapes.specs.Shapes.{row_of}
+use Rattle.mt_shapes.specs.Tables.{entry, none, IsRowBelow}
+use Rattle.mt_shapes.proofs.Listed.{no_rows, next_row, no_row, too_many, row_fits, one_longer}
+use Rattle.mt_shapes.proofs.rows.rows_at.Goals as goal
+use Rattle.mt_shapes.proofs.rows.rows_at.Goals.{then-entry-gt0+then-contains+else-left-eq0+in_ok-push, else-entry-gt0, else-entry-gt0-via-then-entry-gt0+else-contains, else-entry-gt0-via-else-entry-gt0}
+
+pub loop-entry-init : goal.loop-entry-init
+loop-entry-init c = record { count = refl; added = no_rows c.args.entries.now c.args.text c.args.begin c.args.room c.args.out.now }
+
+pub returns-then-left-eq0-clause-more : goal.returns-then-left-eq0-clause-more
+returns-then-left-eq0-clause-more c =
+    let entries = c.args.entries.now in
+    let n = c.loop-entry.entry-index in
+    let low : n < length entries = omega arith in
+    let item : c.entry-item.result ≡ entry entries n = get_or_read entries n c.entry-item.result (omega arith) c.entry-item.is none in
+    let some : 0 < c.entry-item.result.shape.length = omega (arith, c.if-entry-gt0.true) in
+    λ _. too_many c.args.last entries c.args.text c.args.begin n c.args.room c.loop-entry.left c.args.out.now c.loop-entry.out c.requires.few c.requires.fine low (subst (λ (x : Entry). 0 < x.shape.length) item some)
+    (subst (λ (x : Entry). In x.begins c.args.begin) item (c.contains.ensures.yes c.if-contains.true)) c.loop-entry.invariant.count c.if-left-eq0.true c.loop-entry.invariant.added
+
+pub row-requires-clause-labels : goal.row-requires-clause-labels
+row-requires-clause-labels c =
+    let entries = c.args.entries.now in
+    let n = c.loop-entry.entry-index in
+    let low : n < length entries = omega arith in
+    let item : c.entry-item.result ≡ entry entries n = get_or_read entries n c.entry-item.result (omega arith) c.entry-item.is none in
+    let fits = row_fits c.args.last entries n c.args.begin c.entry-item.result c.requires.few c.requires.fine low item (c.contains.ensures.yes c.if-contains.true) in
+    fits.1
+
+pub loop-entry-preserved : goal.loop-entry-preserved
+loop-entry-preserved c =
+    let entries = c.args.entries.now in
+    let n = c.loop-entry.entry-index in
+    let low : n < length entries = omega arith in
+    let item : c.entry-item.result ≡ entry entries n = get_or_read entries n c.entry-item.result (omega arith) c.entry-item.is none in
+    let h = c.loop-entry.invariant in
+    elim c.if-entry-gt0.branch [
+      | then-entry-gt0+then-contains+else-left-eq0+in_ok-push w ↦
+          let some : 0 < c.entry-item.result.shape.length = omega (arith, w.if-entry-gt0.true) in
+          let free = w.if-left-eq0.false in
+          let longer = one_longer c.loop-entry.out w.push.new.self w.row.result w.in_ok-push.ensures.ok in
+          record {
+            count = omega (arith, h.count, longer, free, w.left-is, ap length w.out-is);
+            added = subst (Appends (IsRowBelow entries c.args.text c.args.begin (n + 1)) c.args.room c.args.out.now) (sym w.out-is)
+                (next_row c.args.last entries c.args.text c.args.begin n c.args.room c.loop-entry.left w.row.result c.args.out.now c.loop-entry.out w.push.new.self c.requires.few c.requires.fine low
+                (subst (λ (x : Entry). 0 < x.shape.length) item some) (subst (λ (x : Entry). In x.begins c.args.begin) item (w.contains.ensures.yes w.if-contains.true)) h.count (omega (arith, free))
+                (w.row.ensures ∙ ap (λ (x : Entry). row_of x.shape c.args.text c.args.begin) item) w.in_ok-push.ensures.ok h.added);
+          }
+      | else-entry-gt0 w ↦ record {
+        count = omega (arith, h.count, w.left-is, ap length w.out-is);
+        added = subst (Appends (IsRowBelow entries c.args.text c.args.begin (n + 1)) c.args.room c.args.out.now) (sym w.out-is)
+            (no_row entries c.args.text c.args.begin n c.args.room c.args.out.now c.loop-entry.out
+            (λ some is. elim w.else-entry-gt0.branch [
+              | else-entry-gt0-via-then-entry-gt0+else-contains u ↦ u.contains.ensures.no u.if-contains.false (subst (λ (x : Entry). In x.begins c.args.begin) (sym item) is)
+              | else-entry-gt0-via-else-entry-gt0 u ↦
+                  let none_there = u.if-entry-gt0.false in
+                  let same : c.entry-item.result.shape.length ≡ (entry entries n).shape.length = ap (λ (x : Entry). x.shape.length) item in
+                  omega (arith, some, none_there, same)
+            ]) h.added);
+      }
+    ]
