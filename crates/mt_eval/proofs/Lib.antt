@@ -8,3 +8,9 @@ pub mod Behind
 pub mod Exprs
 pub mod Found
 pub mod Names
+pub mod Unions
+pub mod Sequenced
+pub mod Walked
+pub mod Rowed
+pub mod Few
+pub mod Sought

@@ -1,3 +1,6 @@
 pub mod Conds
 pub mod Runs
 pub mod Rooms
+pub mod Sequences
+pub mod Walks
+pub mod Rarest

@@ -1,6 +1,6 @@
 //! Conditions on the labels of rows.
 
-ghost use Rattle.std.specs.Prelude.{◌≡◌, ℕ, ◌+◌, ◌<◌, length, Decides, IfSome, IfNone, OnOk};
+ghost use Rattle.std.specs.Prelude.{◌≡◌, ℕ, ◌+◌, ◌<◌, ◌≤◌, length, Decides, IfSome, IfNone, OnOk};
 ghost use Rattle.std.specs.List.{All, AllZip};
 ghost use Rattle.mt_text_spec.specs.Texts as spec;
 ghost use Rattle.mt_match_spec.specs.Labels.{IsSetTo};
@@ -50,7 +50,8 @@ fn are_same<L: Ledger>(
     requires left { left < token_count segment.now }
     requires right_attr { right_attr < length segment.now.attrs }
     requires right { right < token_count segment.now }
-    ensures { Decides result (told_value segment.now left_attr left ≡ told_value segment.now right_attr right) }
+    ensures same { Decides result (told_value segment.now left_attr left ≡ told_value segment.now right_attr right) }
+    ensures rises { steps.old ≤ steps.new }
 {
     let one = segment.value_id(left_attr, left, steps);
     let other = segment.value_id(right_attr, right, steps);
@@ -65,7 +66,8 @@ fn are_same<L: Ledger>(
 fn meets<L: Ledger>(segment: &Segment, row: &Row, cond: &Cond, steps: &mut Steps<L>) -> bool
     requires row { StandsIn segment.now row.now }
     requires cond { IsFor segment.now cond.now }
-    ensures { Decides result (MeetsIn segment.now row.now cond.now) }
+    ensures meets { Decides result (MeetsIn segment.now row.now cond.now) }
+    ensures rises { steps.old ≤ steps.new }
 {
     let (first, _) = segment.text_bounds(row.span().text());
     let Some(left) = place_of(row, cond.left) else {
@@ -89,7 +91,8 @@ fn meets<L: Ledger>(segment: &Segment, row: &Row, cond: &Cond, steps: &mut Steps
 fn meets_all<L: Ledger>(segment: &Segment, row: &Row, conds: &[Cond], steps: &mut Steps<L>) -> bool
     requires row { StandsIn segment.now row.now }
     requires conds { AreFor segment.now conds.now }
-    ensures { Decides result (All (MeetsIn segment.now row.now) conds.now) }
+    ensures meets { Decides result (All (MeetsIn segment.now row.now) conds.now) }
+    ensures rises { steps.old ≤ steps.new }
 {
     for cond in conds {
         if !meets(segment, row, cond, steps) {
@@ -109,7 +112,8 @@ pub(crate) fn mark_met<L: Ledger>(
 ) -> Result<(), NoMemory>
     requires rows { All (StandsIn segment.now) rows.now }
     requires conds { AreFor segment.now conds.now }
-    ensures { OnOk result (Tell (λ row. All (MeetsIn segment.now row) conds.now) rows.now marks.new.items) }
+    ensures tell { OnOk result (Tell (λ row. All (MeetsIn segment.now row) conds.now) rows.now marks.new.items) }
+    ensures rises { steps.old ≤ steps.new }
 {
     marks.clear();
     for i in 0..rows.len() {

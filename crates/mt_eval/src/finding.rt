@@ -1,7 +1,7 @@
 //! The rows of one expression of a query.
 
-ghost use Rattle.std.specs.Prelude.{◌≡◌, ◌+◌, ◌<◌, ◌≤◌, length, IfOk, OnOk, IsErrOf};
-ghost use Rattle.std.specs.List.{Contains};
+ghost use Rattle.std.specs.Prelude.{◌≡◌, ◌+◌, ◌-◌, ◌*◌, ◌<◌, ◌≤◌, [], length, IfOk, OnOk, IsErrOf};
+ghost use Rattle.std.specs.List.{All};
 ghost use Rattle.mt_text_spec.specs.Texts as spec;
 ghost use Rattle.mt_text_spec.specs.Queries as q;
 ghost use Rattle.mt_cql.specs.Shape.{shape};
@@ -12,15 +12,23 @@ ghost use Rattle.mt_prepare.specs.Sighted.{IsSighted};
 ghost use Rattle.mt_rows.specs.Appends.{Appends};
 ghost use Rattle.mt_eval_spec.specs.Told.{IsFor, told};
 ghost use Rattle.mt_eval_spec.specs.RowsIn.{PassesRoom, RowsIn, expr_at, heads};
+ghost use Rattle.mt_eval_spec.specs.Literals.{AreEquals, AreFew};
 ghost use Rattle.mt_eval.specs.Runs.{AreTexts};
+ghost use Rattle.mt_eval.specs.Sequences.{AreTestsOf, IsOne, positions_of, test_at};
+ghost use Rattle.mt_eval.specs.Walks.{IsLeft, due, left_of};
 
-use mt_automaton::{Automaton, Pool, Work, labels_stand};
+use super::rarest::{looked_by, positions};
+use super::sequence::{Sequence, add_rows};
+use super::walk::Walk;
+use mt_automaton::{Automaton, Pool, labels_stand};
 use mt_base::Steps;
 use mt_cql::{Expr, Query};
-use mt_eval_laws::{have_rows_in, no_more_than_all};
+use mt_eval_laws::{have_rows_in, no_more_than_all, places_are_listed};
 use mt_prepare::{Prepared, PreparedExpr, Sighted};
 use mt_rows::{EvalError, RowList, Rows};
 use mt_segment::Segment;
+use mt_segment_laws::tables_are_whole;
+use mt_shapes::{Work, rows_of_text};
 use std::alloc::Global;
 use std::sync::ledger::Ledger;
 
@@ -55,7 +63,7 @@ fn add_text(
 {
     sighted.enter(ready, segment, text)?;
     let view = sighted.view(expr, ready, segment, text);
-    automaton.rows_of_text(work, &view, text, room, out)
+    rows_of_text(work, &view, automaton, text, room, out)
 }
 
 /// The rows of an expression in the texts, one text after another.
@@ -99,6 +107,105 @@ fn rows_in_texts(
     Ok(out)
 }
 
+/// The rows of an expression in the texts, by its automaton.
+fn rows_by_automaton<L: Ledger>(
+    alloc: Global,
+    asked: &Asked<'_>,
+    expr: &Expr,
+    ready: &PreparedExpr,
+    room: u32,
+    steps: &mut Steps<L>,
+) -> Result<Rows, EvalError>
+    requires query { IsFor asked.now.segment.now asked.now.query.now }
+    requires texts { AreTexts asked.now.segment.now asked.now.texts.now }
+    requires valid { (number : _) × (number < length (heads asked.now.query.now)) × (expr_at (heads asked.now.query.now) number ≡ shape expr.now) }
+    requires ready { IsReady asked.now.segment.now (shape expr.now) ready.now }
+    ensures rows { IfOk result (λ rows. RowsIn asked.now.segment.now asked.now.texts.now (shape expr.now) rows) }
+    ensures room { IfOk result (λ rows. length rows ≤ room) }
+    ensures too_many { IsErrOf result EvalError.TooManyRows → PassesRoom asked.now.segment.now asked.now.texts.now (shape expr.now) room }
+    ensures rises { steps.old ≤ steps.new }
+{
+    labels_stand();
+    let automaton = Automaton::compile(alloc, expr)?;
+    let mut pool = Pool::new(alloc);
+    let mut sighted = Sighted::new(alloc, &mut pool, expr, ready, asked.segment, steps)?;
+    rows_in_texts(alloc, asked, expr, ready, &automaton, &mut sighted, room)
+}
+
+/// Adds the rows of a sequence in the texts, by the positions that are left.
+fn walked<L: Ledger>(
+    asked: &Asked<'_>,
+    sequence: &Sequence<'_>,
+    mut walk: Walk<'_>,
+    room: u32,
+    steps: &mut Steps<L>,
+    mut out: Rows,
+) -> Result<Rows, EvalError>
+    requires query { IsFor asked.now.segment.now asked.now.query.now }
+    requires texts { AreTexts asked.now.segment.now asked.now.texts.now }
+    requires valid { (number : _) × (number < length (heads asked.now.query.now)) × (expr_at (heads asked.now.query.now) number ≡ shape sequence.now.expr.now) }
+    requires tests { AreTestsOf asked.now.segment.now (shape sequence.now.expr.now) sequence.now.tests.now }
+    requires by { sequence.now.by < length sequence.now.tests.now }
+    requires one { IsOne (test_at sequence.now.tests.now sequence.now.by) }
+    requires left { IsLeft (positions_of asked.now.segment.now (test_at sequence.now.tests.now sequence.now.by)) 0 (left_of walk.next walk.rest) }
+    requires none { out ≡ [] }
+    ensures rows { IfOk result (λ rows. RowsIn asked.now.segment.now asked.now.texts.now (shape sequence.now.expr.now) rows) }
+    ensures room { IfOk result (λ rows. length rows ≤ room) }
+    ensures too_many { IsErrOf result EvalError.TooManyRows → PassesRoom asked.now.segment.now asked.now.texts.now (shape sequence.now.expr.now) room }
+    ensures rises { steps.old ≤ steps.new }
+    ensures ones { All IsOne sequence.now.tests.now → steps.new ≤ steps.old + due (length sequence.now.tests.now - 1) walk.entry.next walk.entry.rest }
+{
+    have_rows_in();
+    no_more_than_all();
+    for text in asked.texts {
+        let left = room - out.len() as u32;
+        add_rows(
+            &mut walk,
+            sequence,
+            asked.segment,
+            *text,
+            left,
+            steps,
+            &mut out,
+        )?;
+    }
+    Ok(out)
+}
+
+/// The rows of a sequence in the texts, by the positions of the value of one of its tests.
+fn rows_by_value<L: Ledger>(
+    alloc: Global,
+    asked: &Asked<'_>,
+    sequence: &Sequence<'_>,
+    room: u32,
+    steps: &mut Steps<L>,
+) -> Result<Rows, EvalError>
+    requires query { IsFor asked.now.segment.now asked.now.query.now }
+    requires texts { AreTexts asked.now.segment.now asked.now.texts.now }
+    requires valid { (number : _) × (number < length (heads asked.now.query.now)) × (expr_at (heads asked.now.query.now) number ≡ shape sequence.now.expr.now) }
+    requires tests { AreTestsOf asked.now.segment.now (shape sequence.now.expr.now) sequence.now.tests.now }
+    requires by { sequence.now.by < length sequence.now.tests.now }
+    requires one { IsOne (test_at sequence.now.tests.now sequence.now.by) }
+    ensures rows { IfOk result (λ rows. RowsIn asked.now.segment.now asked.now.texts.now (shape sequence.now.expr.now) rows) }
+    ensures room { IfOk result (λ rows. length rows ≤ room) }
+    ensures too_many { IsErrOf result EvalError.TooManyRows → PassesRoom asked.now.segment.now asked.now.texts.now (shape sequence.now.expr.now) room }
+    ensures rises { steps.old ≤ steps.new }
+    ensures ones { All IsOne sequence.now.tests.now
+        → steps.new ≤ steps.old + length sequence.now.tests.now * length (positions_of asked.now.segment.now (test_at sequence.now.tests.now sequence.now.by)) }
+{
+    places_are_listed();
+    tables_are_whole();
+    let _valid = asked.segment.texts();
+    let out = Rows::new(alloc);
+    match positions(asked.segment, &sequence.tests[sequence.by]) {
+        None => Ok(out),
+        Some(list) => {
+            let walk = Walk::new(list, steps);
+            walked(asked, sequence, walk, room, steps, out)
+        }
+    }
+}
+
 /// All rows of the expression with this number, the head or an operand, if there is room for them.
 pub(crate) fn rows_of<L: Ledger>(
     alloc: Global,
@@ -116,12 +223,26 @@ pub(crate) fn rows_of<L: Ledger>(
     ensures rows { IfOk result (λ rows. RowsIn asked.now.segment.now asked.now.texts.now (expr_at (heads asked.now.query.now) number) rows) }
     ensures room { IfOk result (λ rows. length rows ≤ room) }
     ensures too_many { IsErrOf result EvalError.TooManyRows → PassesRoom asked.now.segment.now asked.now.texts.now (expr_at (heads asked.now.query.now) number) room }
+    ensures rises { steps.old ≤ steps.new }
+    ensures few { AreEquals (shape expr.now) → AreFew asked.now.segment.now (shape expr.now) (steps.new - steps.old) }
 {
-    labels_stand();
+    places_are_listed();
+    tables_are_whole();
+    let _valid = asked.segment.texts();
     let ready = asked.prepared.exprs.get(number);
-    let automaton = Automaton::compile(alloc, expr)?;
-    let mut pool = Pool::new(alloc);
-    let mut sighted = Sighted::new(alloc, &mut pool, expr, ready, asked.segment, steps)?;
-    let rows = rows_in_texts(alloc, asked, expr, ready, &automaton, &mut sighted, room)?;
-    Ok(RowList::new(rows))
+    match looked_by(asked.segment, expr, ready.tests.as_slice()) {
+        None => {
+            let rows = rows_by_automaton(alloc, asked, expr, ready, room, steps)?;
+            Ok(RowList::new(rows))
+        }
+        Some(by) => {
+            let sequence = Sequence {
+                expr,
+                tests: ready.tests.as_slice(),
+                by,
+            };
+            let rows = rows_by_value(alloc, asked, &sequence, room, steps)?;
+            Ok(RowList::new(rows))
+        }
+    }
 }

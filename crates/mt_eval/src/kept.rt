@@ -1,11 +1,12 @@
 //! The rows that a query keeps.
 
-ghost use Rattle.std.specs.Prelude.{◌≡◌, length, IfOk, OnOk, IsErrOf};
+ghost use Rattle.std.specs.Prelude.{◌≡◌, ◌-◌, ◌≤◌, [], length, IfOk, OnOk, IsErrOf};
 ghost use Rattle.std.specs.List.{All, Contains};
 ghost use Rattle.mt_text_spec.specs.Orders.{row_cmp};
 ghost use Rattle.mt_match_spec.specs.Rows.{ListsAll};
 ghost use Rattle.mt_prepare.specs.Prepared.{IsPrepared};
 ghost use Rattle.mt_eval_spec.specs.Told.{IsFor};
+ghost use Rattle.mt_eval_spec.specs.Literals.{AreFew, IsPlain};
 ghost use Rattle.mt_eval_spec.specs.RowsIn.{EachLeaves, KeptIn, MeetsIn, SomePasses, heads};
 ghost use Rattle.mt_eval.specs.Conds.{AreFor, StandsIn};
 ghost use Rattle.mt_eval.specs.Runs.{AreTexts};
@@ -31,7 +32,9 @@ fn keep_met<L: Ledger>(
 ) -> Result<(), NoMemory>
     requires rows { All (StandsIn segment.now) rows.old }
     requires conds { AreFor segment.now conds.now }
-    ensures { OnOk result (ListsAll row_cmp (λ row. Contains rows.old row × All (MeetsIn segment.now row) conds.now) rows.new) }
+    ensures met { OnOk result (ListsAll row_cmp (λ row. Contains rows.old row × All (MeetsIn segment.now row) conds.now) rows.new) }
+    ensures rises { steps.old ≤ steps.new }
+    ensures none { conds.now ≡ [] → steps.new ≡ steps.old }
 {
     rows.len();
     if conds.is_empty() {
@@ -53,6 +56,8 @@ pub(crate) fn kept_rows<L: Ledger>(
     requires prepared { IsPrepared asked.now.segment.now asked.now.query.now asked.now.prepared.now }
     requires texts { AreTexts asked.now.segment.now asked.now.texts.now }
     requires rooms { length rooms.old ≡ length (heads asked.now.query.now) }
+    ensures rises { steps.old ≤ steps.new }
+    ensures steps { IsPlain asked.now.query.now → AreFew asked.now.segment.now asked.now.query.now.head (steps.new - steps.old) }
     ensures kept { IfOk result (λ rows. KeptIn asked.now.segment.now asked.now.texts.now asked.now.query.now rows) }
     ensures rooms { OnOk result (EachLeaves asked.now.segment.now asked.now.texts.now (heads asked.now.query.now) 0 rooms.old rooms.new) }
     ensures too_many { IsErrOf result EvalError.TooManyRows → SomePasses asked.now.segment.now asked.now.texts.now (heads asked.now.query.now) 0 rooms.old }

@@ -4,16 +4,21 @@
 //! A query is made ready for a segment by `prepare` of `mt_prepare`, which builds its patterns; `eval` then asks no shop.
 #![tactic(auto)]
 
-ghost use Rattle.std.specs.Prelude.{◌≡◌, length, IfOk, OnOk, IsErrOf};
+ghost use Rattle.std.specs.Prelude.{◌≡◌, ◌-◌, ◌≤◌, length, IfOk, OnOk, IsErrOf};
 ghost use Rattle.mt_prepare.specs.Prepared.{IsPrepared};
 ghost use Rattle.mt_eval_spec.specs.Told.{IsFor};
+ghost use Rattle.mt_eval_spec.specs.Literals.{AreFew, IsPlain};
 ghost use Rattle.mt_eval_spec.specs.RowsIn.{EachLeaves, KeptIn, SomePasses, heads};
 ghost use Rattle.mt_eval.specs.Runs.{AreTexts};
 
 mod conds;
 mod finding;
 mod kept;
+mod looks;
+mod rarest;
 mod run;
+mod sequence;
+mod walk;
 
 use finding::Asked;
 use kept::kept_rows;
@@ -27,6 +32,8 @@ use std::sync::ledger::Ledger;
 
 /// The rows that a query keeps in the texts with these numbers, ascending and numbered in the segment. There is a room for the head and then one for each operand, in
 /// the order of `prepare`: how many rows each may have, before filters and conditions. Each is lowered by the rows that it has; after an error the rooms are unknown.
+/// A position that is read and a value that is looked at are a step each. A sequence of `==` tests alone takes at most as many steps as there are tests at each place of
+/// the rarest of its values.
 pub fn eval<L: Ledger>(
     alloc: Global,
     query: &Query,
@@ -40,6 +47,8 @@ pub fn eval<L: Ledger>(
     requires prepared { IsPrepared segment.now query.now prepared.now }
     requires texts { AreTexts segment.now texts.now }
     requires rooms { length rooms.old ≡ length (heads query.now) }
+    ensures rises { steps.old ≤ steps.new }
+    ensures few { IsPlain query.now → AreFew segment.now query.now.head (steps.new - steps.old) }
     ensures kept { IfOk result (λ rows. KeptIn segment.now texts.now query.now rows) }
     ensures rooms { OnOk result (EachLeaves segment.now texts.now (heads query.now) 0 rooms.old rooms.new) }
     ensures too_many { IsErrOf result EvalError.TooManyRows → SomePasses segment.now texts.now (heads query.now) 0 rooms.old }

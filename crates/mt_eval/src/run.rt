@@ -1,6 +1,6 @@
 //! Evaluation of a query over some texts of a segment.
 
-ghost use Rattle.std.specs.Prelude.{◌≡◌, ◌+◌, ◌<◌, ◌≤◌, length, slice_index_or, IfOk, OnOk, IsErrOf};
+ghost use Rattle.std.specs.Prelude.{◌≡◌, ◌+◌, ◌-◌, ◌<◌, ◌≤◌, length, slice_index_or, IfOk, OnOk, IsErrOf};
 ghost use Rattle.std.specs.List.{Contains};
 ghost use Rattle.std.specs.List.Sorted.{IsStrictlySortedBy};
 ghost use Rattle.mt_text_spec.specs.Orders.{row_cmp, span_cmp};
@@ -9,6 +9,8 @@ ghost use Rattle.mt_match_spec.specs.Rows.{ListsAll};
 ghost use Rattle.mt_match_spec.specs.Kept.{Passes};
 ghost use Rattle.mt_prepare.specs.Prepared.{IsPrepared};
 ghost use Rattle.mt_eval_spec.specs.Told.{IsFor};
+ghost use Rattle.mt_text_spec.specs.Queries.{NoMore};
+ghost use Rattle.mt_eval_spec.specs.Literals.{AreEquals, AreFew};
 ghost use Rattle.mt_eval_spec.specs.RowsIn.{EachLeaves, PassesAllIn, PassesRoom, RowsIn, SomePasses, expr_at, heads, operands};
 ghost use Rattle.mt_eval.specs.Runs.{AreTexts, StandAt};
 ghost use Rattle.mt_eval.specs.Rooms.{LowersOne};
@@ -38,6 +40,8 @@ pub(crate) fn take_rows<L: Ledger>(
     ensures rows { IfOk result (λ rows. RowsIn asked.now.segment.now asked.now.texts.now (expr_at (heads asked.now.query.now) number) rows) }
     ensures rooms { IfOk result (λ rows. LowersOne number (length rows) rooms.old rooms.new) }
     ensures few { number < 18446744073709551615 }
+    ensures rises { steps.old ≤ steps.new }
+    ensures steps { AreEquals (shape expr.now) → AreFew asked.now.segment.now (shape expr.now) (steps.new - steps.old) }
     ensures too_many { IsErrOf result EvalError.TooManyRows
         → PassesRoom asked.now.segment.now asked.now.texts.now (expr_at (heads asked.now.query.now) number) (slice_index_or rooms.old number 0) }
 {
@@ -82,6 +86,8 @@ pub(crate) fn let_pass<L: Ledger>(
     requires texts { AreTexts asked.now.segment.now asked.now.texts.now }
     requires stand { StandAt (heads asked.now.query.now) (operands (filters_shape filters.now)) first }
     requires rooms { length rooms.old ≡ length (heads asked.now.query.now) }
+    ensures rises { steps.old ≤ steps.new }
+    ensures steps { filters_shape filters.now ≡ NoMore → steps.new ≡ steps.old }
     ensures next { IfOk result (λ next. next ≡ first + length (operands (filters_shape filters.now))) }
     ensures rows { OnOk result (ListsAll row_cmp (λ row. Contains rows.old row × PassesAllIn asked.now.segment.now asked.now.texts.now (filters_shape filters.now) row.span) rows.new) }
     ensures rooms { OnOk result (EachLeaves asked.now.segment.now asked.now.texts.now (operands (filters_shape filters.now)) first rooms.old rooms.new) }

@@ -7,3 +7,4 @@ pub mod Rows
 pub mod Kept
 pub mod Listed
 pub mod NoMore
+pub mod Places

@@ -1,7 +1,7 @@
 -- Laws of what the tables of a segment tell a query.
-use Rattle.std.specs.Prelude.{ℕ, ◌<◌, ◌≤◌, List, length}
+use Rattle.std.specs.Prelude.{ℕ, ◌≡◌, ◌<◌, ◌≤◌, List, [], length, slice_index_or}
 use Rattle.std.specs.List.{Contains}
-use Rattle.std.specs.List.Sorted.{IsStrictlySortedBy}
+use Rattle.std.specs.List.Sorted.{IsStrictlySortedBy, IsStrictlyIncreasing}
 use Rattle.mt_text_spec.specs.Registries.{Registry, ValidRegistry}
 use Rattle.mt_text_spec.specs.Texts.{Text, Row, ValidCorpus}
 use Rattle.mt_text_spec.specs.Queries.{Expr, Query}
@@ -9,7 +9,7 @@ use Rattle.mt_query_spec.specs.Valid.{ValidExpr, ValidQuery}
 use Rattle.mt_text_spec.specs.Orders.{row_cmp}
 use Rattle.mt_match_spec.specs.Rows.{IsRow}
 use Rattle.mt_match_spec.specs.Kept.{Keeps}
-use Rattle.mt_segment_spec.specs.Tables.{Tables, AreTablesOf, AreTablesUnder}
+use Rattle.mt_segment_spec.specs.Tables.{Tables, AreTables, AreTablesOf, AreTablesUnder, number_at, tables_at, token_count}
 use Rattle.mt_match_spec.specs.Labels.{IsSetTo}
 use Rattle.mt_eval_spec.specs.Told.{told_tokens}
 use Rattle.mt_eval_spec.specs.RowsIn.{IsRowIn, RowsIn, KeepsIn}
@@ -48,3 +48,14 @@ LabelsAreInside = (tables : Tables) (texts : List ℕ) (expr : Expr) (row : Row)
 -- ascending rows that stand in an ascending list are no more than its rows
 abbrev pub NoMoreThanAll : Type 0
 NoMoreThanAll = (rows all : List Row) → IsStrictlySortedBy row_cmp rows → IsStrictlySortedBy row_cmp all → ((row : Row) → Contains rows row → Contains all row) → length rows ≤ length all
+
+-- a list has just the places of a segment where the value of an attribute has this number, ascending
+pub record ListsPlaces (tables : Tables) (attr number : ℕ) (places : List ℕ) : Type 0 where
+  pub ascending : IsStrictlyIncreasing places
+  pub on : (place : ℕ) → Contains places place → (place < token_count tables) × (number_at tables attr place ≡ number)
+  pub back : (place : ℕ) → place < token_count tables → number_at tables attr place ≡ number → Contains places place
+
+-- the posting list of a value does
+abbrev pub PlacesAreListed : Type 0
+PlacesAreListed = (tables : Tables) (attr number : ℕ) → AreTables tables → attr < length tables.attrs → number < length (tables_at tables.attrs attr).lexicon →
+    ListsPlaces tables attr number (slice_index_or (tables_at tables.attrs attr).postings number [])

@@ -1,7 +1,7 @@
 //! Laws of what the tables of a segment tell a query: each function's contract is a law, and the functions do nothing.
 #![tactic(auto)]
 
-ghost use Rattle.mt_eval_laws.specs.Laws.{HaveRowsIn, KeptAreTold, LabelsAreInside, NoMoreThanAll, RowsAreTold};
+ghost use Rattle.mt_eval_laws.specs.Laws.{HaveRowsIn, KeptAreTold, LabelsAreInside, NoMoreThanAll, PlacesAreListed, RowsAreTold};
 
 use mt_match_laws::have_rows;
 use mt_segment_laws::{instances_lie_in_texts, numbers_stand_for_values, tokens_stand_in_texts};
@@ -41,3 +41,10 @@ pub fn labels_are_inside()
 pub fn no_more_than_all()
     ensures { NoMoreThanAll }
 {}
+
+/// The posting list of a value has just the places of the segment where its number stands.
+pub fn places_are_listed()
+    ensures { PlacesAreListed }
+{
+    numbers_stand_for_values();
+}

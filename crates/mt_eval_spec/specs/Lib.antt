@@ -1,3 +1,4 @@
 pub mod Told
 pub mod RowsIn
 pub mod Asked
+pub mod Literals

@@ -1,5 +1,5 @@
 -- What the tables of a segment tell a query of its texts.
-use Rattle.std.specs.Prelude.{ℕ, ◌≡◌, ◌+◌, ◌<◌, List, [], slice_index_or}
+use Rattle.std.specs.Prelude.{ℕ, ◌≡◌, ◌+◌, List, [], slice_index_or}
 use Rattle.std.specs.List.{Contains}
 use Rattle.mt_text_spec.specs.Registries.{Registry}
 use Rattle.mt_text_spec.specs.Texts.{StructSpan}

@@ -14,3 +14,4 @@ pub mod Resolving
 pub mod Sights
 pub mod LastEnds
 pub mod Standing
+pub mod Finding

@@ -12,7 +12,7 @@ use Rattle.mt_segment_spec.specs.Tables.{Tables}
 use Rattle.mt_eval_spec.specs.RowsIn.{heads, operands}
 use Rattle.mt_prepare.specs.declared.prepared.PreparedExpr.{PreparedExpr}
 use Rattle.mt_prepare.specs.declared.resolved.Resolved.{Resolved}
-use Rattle.mt_prepare.specs.Prepared.{AddsReady, HasReady, IsReady, TagSpans}
+use Rattle.mt_prepare.specs.Prepared.{AddsReady, HasReady, IsByNumber, IsReady, TagSpans}
 use Rattle.mt_prepare.specs.Resolved.{AreSpansOf, Resolves}
 use Rattle.mt_prepare.specs.TestRows.{HasAttrs}
 
@@ -26,19 +26,21 @@ pub adds_nothing : (tables : Tables) (old : PreparedExpr) → AddsReady tables [
 adds_nothing tables old = λ before earlier z.
     subst (λ (l : List contents.Tag). HasReady tables (before ++ []) l old) (sym (append-nil earlier)) (subst (λ (l : List q.Test). HasReady tables l earlier old) (sym (append-nil before)) z)
 
-pub adds_test : {Y E : Type 0} (r : Result Y E) (tables : Tables) (test : q.Test) (resolved : Resolved) (old new : PreparedExpr) → Resolves tables test resolved → HasAttrs tables resolved → OnOk r (new.tests ≡ old.tests ++ resolved ∷ []) → new.tags ≡ old.tags →
+pub adds_test : {Y E : Type 0} (r : Result Y E) (tables : Tables) (test : q.Test) (resolved : Resolved) (old new : PreparedExpr) → Resolves tables test resolved → IsByNumber test resolved → HasAttrs tables resolved → OnOk r (new.tests ≡ old.tests ++ resolved ∷ []) → new.tags ≡ old.tags →
     OnOk r (AddsReady tables (test ∷ []) [] old new)
-adds_test (Ok y) tables test resolved old new means attrs e same = λ before earlier z. record {
+adds_test (Ok y) tables test resolved old new means number attrs e same = λ before earlier z. record {
   tests_are = rw e (all_zipped_more (Resolves tables) before old.tests test resolved z.tests_are means);
+  numbers = rw e (all_zipped_more IsByNumber before old.tests test resolved z.numbers number);
   attrs = rw e (All-push (HasAttrs tables) old.tests resolved z.attrs attrs);
   tags_are = rw (append-nil earlier, same) z.tags_are;
 }
-adds_test (Err e) tables test resolved old new means attrs h same = tt
+adds_test (Err e) tables test resolved old new means number attrs h same = tt
 
 pub adds_tag : {Y E : Type 0} (r : Result Y E) (tables : Tables) (kind : ℕ) (test : q.Test) (spans : List Span) (old new : PreparedExpr) → AreSpansOf tables (record { kind = kind; test = test }) spans → OnOk r (new.tags ≡ old.tags ++ spans ∷ []) → new.tests ≡ old.tests →
     OnOk r ((place : contents.TagPlace) → AddsReady tables [] (record { place = place; kind = kind; test = test } ∷ []) old new)
 adds_tag (Ok y) tables kind test spans old new are e same = λ place before earlier z. record {
   tests_are = rw (append-nil before, same) z.tests_are;
+  numbers = rw (append-nil before, same) z.numbers;
   attrs = rw same z.attrs;
   tags_are = rw e (all_zipped_more (TagSpans tables) earlier old.tags (record { place = place; kind = kind; test = test }) spans z.tags_are are);
 }
@@ -49,10 +51,10 @@ at_place (Ok y) P place h = h place
 at_place (Err e) P place h = tt
 
 pub all_ready : (tables : Tables) (expr : q.Expr) (old new : PreparedExpr) → old.tests ≡ [] → old.tags ≡ [] → AddsReady tables (token_tests expr) (tags expr) old new → IsReady tables expr new
-all_ready tables expr old new no_tests no_tags h = record { tests_are = has.tests_are; attrs = has.attrs; tags_are = has.tags_are }
+all_ready tables expr old new no_tests no_tags h = record { tests_are = has.tests_are; numbers = has.numbers; attrs = has.attrs; tags_are = has.tags_are }
   where
     none : HasReady tables [] [] old
-    none = record { tests_are = rw no_tests tt; attrs = rw no_tests (All-nil (HasAttrs tables)); tags_are = rw no_tags tt }
+    none = record { tests_are = rw no_tests tt; numbers = rw no_tests tt; attrs = rw no_tests (All-nil (HasAttrs tables)); tags_are = rw no_tags tt }
 
     has : HasReady tables (token_tests expr) (tags expr) new
     has = h [] [] none

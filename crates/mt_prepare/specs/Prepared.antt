@@ -1,5 +1,5 @@
 -- When a query is ready for a segment.
-use Rattle.std.specs.Prelude.{List, ◌++◌}
+use Rattle.std.specs.Prelude.{ℕ, ◌≡◌, List, ◌++◌, Option}
 use Rattle.std.specs.List.{All, AllZip}
 use Rattle.mt_text_spec.specs.Texts.{Span}
 use Rattle.mt_text_spec.specs.Queries as q
@@ -10,6 +10,8 @@ use Rattle.mt_eval_spec.specs.RowsIn.{heads}
 use Rattle.mt_automaton.specs.Parts.{Tag}
 use Rattle.mt_prepare.specs.Resolved.{AreSpansOf, Resolves}
 use Rattle.mt_prepare.specs.TestRows.{HasAttrs}
+use Rattle.mt_prepare.specs.declared.resolved.Resolved.{Resolved}
+use Rattle.mt_prepare.specs.declared.resolved.Resolved.TheVariants.{One}
 use Rattle.mt_prepare.specs.declared.prepared.PreparedExpr.{PreparedExpr}
 use Rattle.mt_prepare.specs.declared.prepared.Prepared.{Prepared}
 
@@ -21,9 +23,19 @@ instances tag = record { kind = tag.kind; test = tag.test }
 abbrev pub TagSpans : Tables → contents.Tag → List Span → Type 0
 TagSpans tables tag spans = AreSpansOf tables (instances tag) spans
 
+-- a literal is resolved to the number of one value, or to none
+abbrev pub IsByNumber : q.Test → Resolved → Type 0
+IsByNumber q.Any test = Unit {0}
+IsByNumber (q.Pattern attr text negated) test = Unit {0}
+IsByNumber (q.Literal attr text negated) test = (id : Option ℕ) × (test ≡ One attr id negated)
+IsByNumber (q.Not inner) test = Unit {0}
+IsByNumber (q.Both left right) test = Unit {0}
+IsByNumber (q.Either left right) test = Unit {0}
+
 -- each test of tokens of the expression is resolved, and each tag has its spans
 pub record IsReady (tables : Tables) (expr : q.Expr) (ready : PreparedExpr) : Type 0 where
   pub tests_are : AllZip (Resolves tables) (token_tests expr) ready.tests
+  pub numbers : AllZip IsByNumber (token_tests expr) ready.tests
   pub attrs : All (HasAttrs tables) ready.tests
   pub tags_are : AllZip (TagSpans tables) (tags expr) ready.tags
 
@@ -34,6 +46,7 @@ IsPrepared tables query prepared = AllZip (IsReady tables) (heads query) prepare
 -- tests of tokens are resolved, and tags have their spans
 pub record HasReady (tables : Tables) (tests : List q.Test) (known : List contents.Tag) (ready : PreparedExpr) : Type 0 where
   pub tests_are : AllZip (Resolves tables) tests ready.tests
+  pub numbers : AllZip IsByNumber tests ready.tests
   pub attrs : All (HasAttrs tables) ready.tests
   pub tags_are : AllZip (TagSpans tables) known ready.tags
 

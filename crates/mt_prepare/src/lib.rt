@@ -15,7 +15,7 @@ mod view;
 pub use patterns::{PatternError, Patterns, check};
 pub use prepared::{Prepared, PreparedExpr, prepare};
 pub use resolved::Resolved;
-pub use sighted::{Sighted, rows_in_text};
+pub use sighted::Sighted;
 pub use tag_rows::TagRows;
 pub use test_rows::row_of;
 pub use view::{TextView, views_are_seen};

@@ -1,12 +1,14 @@
 //! Queries made ready for segments.
 
-ghost use Rattle.std.specs.Prelude.{◌≡◌, ◌+◌, ◌<◌, ◌≤◌, ◌++◌, ◌∷◌, [], List as Items, length, IfOk, IfErr, OnOk};
+ghost use Rattle.std.specs.Prelude.{◌≡◌, ◌+◌, ◌-◌, ◌<◌, ◌≤◌, ◌++◌, ◌∷◌, [], List as Items, length, IfOk, IfErr, OnOk};
 ghost use Rattle.std.specs.List.{All, AllZip};
 ghost use Rattle.mt_text_spec.specs.Queries as q;
 ghost use Rattle.mt_query_spec.specs.Contents.{OfBegin, OfEnd, OfWhole, TagPlace, tags, token_tests};
 ghost use Rattle.mt_cql.specs.Shape.{test_shape, shape, filters_shape};
 ghost use Rattle.mt_eval_spec.specs.Told.{IsFor};
 ghost use Rattle.mt_eval_spec.specs.Asked.{test_patterns, expr_patterns, filters_patterns, query_patterns};
+ghost use Rattle.mt_text_spec.specs.Queries.{NoMore};
+ghost use Rattle.mt_eval_spec.specs.Literals.{AreEquals, FindEach, IsEquals, IsPlain};
 ghost use Rattle.mt_eval_spec.specs.RowsIn.{operands};
 ghost use Rattle.mt_prepare.specs.Asks.{ExprStands, FiltersName, FiltersStand, HasAttr, HasKind, Names, NamesOnly, TestStands};
 ghost use Rattle.mt_prepare.specs.Built.{IsWhole, Blames};
@@ -36,7 +38,8 @@ pub struct Prepared {
     pub exprs: List<PreparedExpr>,
 }
 
-/// Makes a query ready for a segment: builds its patterns, up to the first one that is not built, and asks them.
+/// Makes a query ready for a segment: builds its patterns, up to the first one that is not built, and asks them. To find the value of an `==` test takes a step for each
+/// value that it is compared with, and a sequence of such tests alone takes no others.
 pub fn prepare<P: PatternShop, L: Ledger>(
     alloc: Global,
     query: &Query,
@@ -50,6 +53,7 @@ pub fn prepare<P: PatternShop, L: Ledger>(
     ensures blames { IfErr result (Blames 1 (query_patterns query.now) (P.refused shop.old) (P.refused shop.new)) }
     ensures kept { OnOk result (P.refused shop.new ≡ P.refused shop.old) }
     ensures rises { steps.old ≤ steps.new }
+    ensures finds { IsPlain query.now → FindEach segment.now (token_tests query.now.head) (steps.new - steps.old) }
 {
     let mut patterns = Patterns::<P>::build(alloc, query, shop)?;
     match patterns.prepare(alloc, query, segment, shop, steps) {
@@ -74,6 +78,7 @@ impl<P: PatternShop> Patterns<P> {
         ensures texts { self.new ≡ self.old }
         ensures kept { P.refused shop.new ≡ P.refused shop.old }
         ensures rises { steps.old ≤ steps.new }
+        ensures finds { IsPlain query.now → FindEach segment.now (token_tests query.now.head) (steps.new - steps.old) }
     {
         let mut asked = 0;
         let mut exprs = List::new(alloc);
@@ -111,6 +116,7 @@ fn add_operands<P: PatternShop, L: Ledger>(
     ensures texts { patterns.new ≡ patterns.old }
     ensures kept { P.refused shop.new ≡ P.refused shop.old }
     ensures rises { steps.old ≤ steps.new }
+    ensures none { filters_shape filters.now ≡ NoMore → steps.new ≡ steps.old }
 {
     match filters {
         Filters::End => Ok(()),
@@ -149,6 +155,7 @@ fn ready<P: PatternShop, L: Ledger>(
     ensures texts { patterns.new ≡ patterns.old }
     ensures kept { P.refused shop.new ≡ P.refused shop.old }
     ensures rises { steps.old ≤ steps.new }
+    ensures finds { AreEquals (shape expr.now) → FindEach segment.now (token_tests (shape expr.now)) (steps.new - steps.old) }
 {
     let mut ready = PreparedExpr {
         tests: List::new(alloc),
@@ -178,6 +185,7 @@ fn add_expr<P: PatternShop, L: Ledger>(
     ensures texts { patterns.new ≡ patterns.old }
     ensures kept { P.refused shop.new ≡ P.refused shop.old }
     ensures rises { steps.old ≤ steps.new }
+    ensures finds { AreEquals (shape expr.now) → FindEach segment.now (token_tests (shape expr.now)) (steps.new - steps.old) }
 {
     match expr {
         Expr::Token { label: _, test } => {
@@ -228,6 +236,7 @@ fn add_test<P: PatternShop, L: Ledger>(
     ensures texts { patterns.new ≡ patterns.old }
     ensures kept { P.refused shop.new ≡ P.refused shop.old }
     ensures rises { steps.old ≤ steps.new }
+    ensures finds { IsEquals (test_shape test.now) → FindEach segment.now (test_shape test.now ∷ []) (steps.new - steps.old) }
 {
     let resolved = resolved_test(alloc, segment, test, patterns, asked, shop, steps)?;
     ready.tests.push(resolved)

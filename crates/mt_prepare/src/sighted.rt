@@ -1,14 +1,10 @@
 //! What an expression sees of a segment, text by text.
 
-ghost use Rattle.std.specs.Prelude.{◌≡◌, ◌++◌, ℕ, ◌<◌, [], length, slice_index_or, IfOk, OnOk};
+ghost use Rattle.std.specs.Prelude.{◌≡◌, ◌++◌, ℕ, ◌<◌, [], ◌≤◌, length, slice_index_or, IfOk, OnOk};
 ghost use Rattle.std.specs.List.{All, AllZip};
 ghost use Rattle.mt_text_spec.specs.Queries as q;
 ghost use Rattle.mt_cql.specs.Shape.{shape};
 ghost use Rattle.mt_automaton.specs.Parts.{Tag};
-ghost use Rattle.mt_eval_spec.specs.Told.{told};
-ghost use Rattle.mt_rows.specs.Appends.{Appends};
-ghost use Rattle.mt_automaton.specs.Compiled.{IsOf};
-ghost use Rattle.mt_automaton.specs.RowsFrom.{IsRowOfText};
 ghost use Rattle.mt_prepare.specs.Asks.{HasAttr, HasKind, Names};
 ghost use Rattle.mt_prepare.specs.Resolved.{AreSpansOf};
 ghost use Rattle.mt_prepare.specs.TestRows.{HasAttrs};
@@ -20,12 +16,11 @@ use crate::prepared::PreparedExpr;
 use crate::resolved::Resolved;
 use crate::tag_rows::TagRows;
 use crate::test_rows::row_of;
-use crate::view::{TextView, views_are_seen};
-use mt_automaton::{Automaton, Pool, Work};
+use crate::view::TextView;
+use mt_automaton::Pool;
 use mt_base::{List, NoMemory, Span, Steps};
 use mt_cql::Expr;
 use mt_places::Places;
-use mt_rows::{EvalError, Rows};
 use mt_segment::Segment;
 use std::alloc::Global;
 use std::sync::ledger::Ledger;
@@ -50,7 +45,8 @@ impl Sighted {
     ) -> Result<Self, NoMemory>
         requires ready { IsReady segment.now (shape expr.now) ready.now }
         requires known { Names (HasAttr segment.now) (HasKind segment.now) (shape expr.now) }
-        ensures { IfOk result (λ sighted. IsSighted segment.now (shape expr.now) sighted) }
+        ensures sighted { IfOk result (λ sighted. IsSighted segment.now (shape expr.now) sighted) }
+        ensures rises { steps.old ≤ steps.new }
     {
         let rows = rows_of(alloc, pool, ready.tests.as_slice(), segment, steps)?;
         let mut kinds = Vec::new(alloc);
@@ -104,31 +100,6 @@ impl Sighted {
     }
 }
 
-/// Appends the rows of an expression in a text, ascending, by its automaton. `room` is how many rows may be appended.
-pub fn rows_in_text(
-    sighted: &mut Sighted,
-    automaton: &Automaton,
-    work: &mut Work,
-    expr: &Expr,
-    ready: &PreparedExpr,
-    segment: &Segment,
-    text: u32,
-    room: u32,
-    out: &mut Rows,
-) -> Result<(), EvalError>
-    requires text { text < length segment.now.texts }
-    requires ready { IsReady segment.now (shape expr.now) ready.now }
-    requires sees { IsSighted segment.now (shape expr.now) sighted.old }
-    requires automaton { IsOf (shape expr.now) automaton.now }
-    ensures ok { OnOk result (Appends (IsRowOfText (told segment.now text) (shape expr.now) text) room out.old out.new) }
-    ensures kept { IsSighted segment.now (shape expr.now) sighted.new }
-{
-    sighted.enter(ready, segment, text)?;
-    views_are_seen();
-    let view = sighted.view(expr, ready, segment, text);
-    automaton.rows_of_text(work, &view, text, room, out)
-}
-
 /// The rows of tests in a segment, in order.
 fn rows_of<L: Ledger>(
     alloc: Global,
@@ -138,7 +109,8 @@ fn rows_of<L: Ledger>(
     steps: &mut Steps<L>,
 ) -> Result<Vec<Places>, NoMemory>
     requires { All (HasAttrs segment.now) tests.now }
-    ensures { IfOk result (λ rows. AllZip (IsRowOfResolved segment.now) tests.now rows.items) }
+    ensures rows { IfOk result (λ rows. AllZip (IsRowOfResolved segment.now) tests.now rows.items) }
+    ensures rises { steps.old ≤ steps.new }
 {
     let mut rows = Vec::with_capacity(alloc, tests.len())?;
     for test in tests {

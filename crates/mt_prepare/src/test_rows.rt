@@ -25,7 +25,8 @@ pub fn row_of<L: Ledger>(
     steps: &mut Steps<L>,
 ) -> Result<Places, NoMemory>
     requires { HasAttrs segment.now test.now }
-    ensures { IfOk result (IsRow (token_count segment.now) (SaysAt segment.now test.now)) }
+    ensures row { IfOk result (IsRow (token_count segment.now) (SaysAt segment.now test.now)) }
+    ensures rises { steps.old ≤ steps.new }
 {
     match test {
         Resolved::Any => whole_row(pool, segment.tokens()),
@@ -107,7 +108,8 @@ fn one_row<L: Ledger>(
     steps: &mut Steps<L>,
 ) -> Result<Places, NoMemory>
     requires { attr < length segment.now.attrs }
-    ensures { IfOk result (IsRow (token_count segment.now) (λ place. id ≡ Some (number_at segment.now attr place))) }
+    ensures row { IfOk result (IsRow (token_count segment.now) (λ place. id ≡ Some (number_at segment.now attr place))) }
+    ensures rises { steps.old ≤ steps.new }
 {
     tables_are_whole();
     let _tokens = segment.tokens();
@@ -128,7 +130,8 @@ fn some_row<L: Ledger>(
     steps: &mut Steps<L>,
 ) -> Result<Places, NoMemory>
     requires { attr < length segment.now.attrs }
-    ensures { IfOk result (IsRow (token_count segment.now) (λ place. slice_get ids.now (number_at segment.now attr place) ≡ Some true)) }
+    ensures row { IfOk result (IsRow (token_count segment.now) (λ place. slice_get ids.now (number_at segment.now attr place) ≡ Some true)) }
+    ensures rises { steps.old ≤ steps.new }
 {
     tables_are_whole();
     let _tokens = segment.tokens();
@@ -178,7 +181,8 @@ fn numbers_row<L: Ledger>(
 ) -> Result<Places, NoMemory>
     requires attr { attr < length segment.now.attrs }
     requires numbers { AreNumbers segment.now attr numbers.now }
-    ensures { IfOk result (IsRow (token_count segment.now) (NumberIsIn segment.now attr numbers.now)) }
+    ensures row { IfOk result (IsRow (token_count segment.now) (NumberIsIn segment.now attr numbers.now)) }
+    ensures rises { steps.old ≤ steps.new }
 {
     let mut row = pool.none(row_width(segment.tokens()))?;
     if are_rare(segment, attr, numbers) {
@@ -220,7 +224,8 @@ fn add_lists<L: Ledger>(
     requires numbers { AreNumbers segment.now attr numbers.now }
     requires width { length row.old ≡ token_count segment.now / 64 + 1 }
     requires none { (place : ℕ) → ¬ In row.old place }
-    ensures { IsRow (token_count segment.now) (NumberIsIn segment.now attr numbers.now) row.new }
+    ensures row { IsRow (token_count segment.now) (NumberIsIn segment.now attr numbers.now) row.new }
+    ensures rises { steps.old ≤ steps.new }
 {
     numbers_stand_for_values();
     tables_are_whole();
@@ -238,6 +243,7 @@ fn add_list<L: Ledger>(row: &mut Places, list: &Postings, steps: &mut Steps<L>)
     requires { All (λ place. place < room row.old) list.now }
     ensures width { length row.new ≡ length row.old }
     ensures places { HasJust (λ place. In row.old place ⊎ Contains list.now place) row.new }
+    ensures rises { steps.old ≤ steps.new }
 {
     let mut left = list.cursor();
     while let Some(place) = left.next(steps) {
@@ -257,7 +263,8 @@ fn pass<L: Ledger>(
     requires attr { attr < length segment.now.attrs }
     requires width { length row.old ≡ token_count segment.now / 64 + 1 }
     requires none { (place : ℕ) → ¬ In row.old place }
-    ensures { OnOk result (IsRow (token_count segment.now) (NumberIsIn segment.now attr numbers.now) row.new) }
+    ensures row { OnOk result (IsRow (token_count segment.now) (NumberIsIn segment.now attr numbers.now) row.new) }
+    ensures rises { steps.old ≤ steps.new }
 {
     match segment.base(attr) {
         None => {
@@ -280,7 +287,8 @@ fn pass_base<L: Ledger>(
     requires base { (tables_at segment.now.attrs attr).base ≡ None }
     requires width { length row.old ≡ token_count segment.now / 64 + 1 }
     requires none { (place : ℕ) → ¬ In row.old place }
-    ensures { IsRow (token_count segment.now) (NumberIsIn segment.now attr numbers.now) row.new }
+    ensures row { IsRow (token_count segment.now) (NumberIsIn segment.now attr numbers.now) row.new }
+    ensures rises { steps.old ≤ steps.new }
 {
     tables_are_whole();
     let tokens = segment.tokens();
@@ -301,7 +309,8 @@ fn pass_mapped<L: Ledger>(
     requires mapped { (tables_at segment.now.attrs attr).base ≡ Some base }
     requires width { length row.old ≡ token_count segment.now / 64 + 1 }
     requires none { (place : ℕ) → ¬ In row.old place }
-    ensures { OnOk result (IsRow (token_count segment.now) (NumberIsIn segment.now attr numbers.now) row.new) }
+    ensures row { OnOk result (IsRow (token_count segment.now) (NumberIsIn segment.now attr numbers.now) row.new) }
+    ensures rises { steps.old ≤ steps.new }
 {
     tables_are_whole();
     let tokens = segment.tokens();
@@ -341,6 +350,7 @@ fn fill<L: Ledger>(
     requires none { (place : ℕ) → ¬ In row.old place }
     ensures width { length row.new ≡ length row.old }
     ensures places { HasJust (λ place. (place < tokens) × In numbers.now (slice_index column.now place)) row.new }
+    ensures rises { steps.old ≤ steps.new }
 {
     for place in 0..tokens {
         if numbers.contains(column.get(place, steps)) {

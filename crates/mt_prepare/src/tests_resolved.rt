@@ -1,10 +1,12 @@
 //! Tests of tokens resolved in a segment.
 
-ghost use Rattle.std.specs.Prelude.{◌≡◌, ◌+◌, ◌<◌, ◌≤◌, length, IfOk, OnOk};
+ghost use Rattle.std.specs.Prelude.{◌≡◌, ◌+◌, ◌-◌, ◌<◌, ◌≤◌, [], ◌∷◌, length, IfOk, OnOk};
 ghost use Rattle.mt_text_spec.specs.Queries as q;
 ghost use Rattle.mt_cql.specs.Shape.{test_shape};
 ghost use Rattle.mt_eval_spec.specs.Asked.{test_patterns};
 ghost use Rattle.mt_prepare.specs.Asks.{Answers, HasAttr, NamesOnly, StandsAt, TestStands};
+ghost use Rattle.mt_eval_spec.specs.Literals.{FindEach, IsEquals};
+ghost use Rattle.mt_prepare.specs.Prepared.{IsByNumber};
 ghost use Rattle.mt_prepare.specs.Resolved.{Resolves};
 ghost use Rattle.mt_prepare.specs.TestRows.{HasAttrs};
 
@@ -31,11 +33,13 @@ pub(crate) fn resolved_test<P: PatternShop, L: Ledger>(
     requires known { NamesOnly (HasAttr segment.now) (test_shape test.now) }
     requires stands { TestStands patterns.old asked.old (test_shape test.now) }
     ensures resolves { IfOk result (λ resolved. Resolves segment.now (test_shape test.now) resolved) }
+    ensures number { IfOk result (λ resolved. IsByNumber (test_shape test.now) resolved) }
     ensures attrs { IfOk result (λ resolved. HasAttrs segment.now resolved) }
     ensures asked { OnOk result (asked.new ≡ asked.old + length (test_patterns (test_shape test.now))) }
     ensures texts { patterns.new ≡ patterns.old }
     ensures kept { P.refused shop.new ≡ P.refused shop.old }
     ensures rises { steps.old ≤ steps.new }
+    ensures finds { IsEquals (test_shape test.now) → FindEach segment.now (test_shape test.now ∷ []) (steps.new - steps.old) }
 {
     match test {
         Test::Any => Ok(Resolved::Any),
@@ -107,8 +111,10 @@ fn resolved_literal<L: Ledger>(
 ) -> Resolved
     requires known { attr < length segment.now.attrs }
     ensures resolves { Resolves segment.now (q.Literal attr text.now not) result }
+    ensures number { IsByNumber (q.Literal attr text.now not) result }
     ensures attrs { HasAttrs segment.now result }
     ensures rises { steps.old ≤ steps.new }
+    ensures finds { FindEach segment.now (q.Literal attr text.now not ∷ []) (steps.new - steps.old) }
 {
     tables_are_whole();
     let _valid = segment.texts();

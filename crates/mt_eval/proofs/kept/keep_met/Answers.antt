@@ -9,9 +9,9 @@ use Rattle.mt_eval.proofs.kept.keep_met.Goals as goal
 
 pub keep-requires : goal.keep-requires
 keep-requires g c =
-    ap length c.deref.ensures.value ∙ same_length (λ (row : Row) (mark : Bool). Decides mark (All (MeetsIn c.args.segment.now row) c.args.conds.now)) c.args.rows.now c.mark_met.new.marks.items c.in_ok-mark_met.ensures
+    ap length c.deref.ensures.value ∙ same_length (λ (row : Row) (mark : Bool). Decides mark (All (MeetsIn c.args.segment.now row) c.args.conds.now)) c.args.rows.now c.mark_met.new.marks.items c.in_ok-mark_met.ensures.tell
 
-pub returns : goal.returns
-returns g c =
+pub returns-clause-met : goal.returns-clause-met
+returns-clause-met g c =
     rw (c.keep.ensures, c.deref.ensures.value)
-    (kept_lists row_cmp (λ row. All (MeetsIn c.args.segment.now row) c.args.conds.now) c.args.rows.now c.mark_met.new.marks.items c.len.ensures.ascending c.in_ok-mark_met.ensures)
+    (kept_lists row_cmp (λ row. All (MeetsIn c.args.segment.now row) c.args.conds.now) c.args.rows.now c.mark_met.new.marks.items c.len.ensures.ascending c.in_ok-mark_met.ensures.tell)

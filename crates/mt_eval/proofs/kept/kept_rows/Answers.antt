@@ -1,4 +1,4 @@
-use Rattle.std.proofs.Common.{rules, ℕ, ◌∷◌, [], Err, IsErrOf}
+use Rattle.std.proofs.Common.{rules, arith, ℕ, ◌∷◌, [], Err, IsErrOf}
 use Rattle.std.specs.List.{Contains}
 use Rattle.mt_rows.specs.declared.error.EvalError.{EvalError}
 use Rattle.mt_rows.specs.declared.error.EvalError.TheVariants.{TooManyRows}
@@ -34,4 +34,27 @@ returns-clause-kept g c =
     let X = c.args.asked.now.texts.now in
     let Q = c.args.asked.now.query.now in
     kept_are T X Q c.in_ok-rows.rows c.let_pass.new.rows c.keep_met.new.rows c.in_ok-rows.ensures.rows (rw c.filters.ensures at c.in_ok-let_pass.ensures.rows)
-    (rw (c.as_slice-conds.ensures, c.conds.ensures) at c.in_ok-keep_met.ensures)
+    (rw (c.as_slice-conds.ensures, c.conds.ensures) at c.in_ok-keep_met.ensures.met)
+
+pub returns-in_err-rows-clause-steps : goal.returns-in_err-rows-clause-steps
+returns-in_err-rows-clause-steps g c = λ plain. (rw c.head.ensures at c.in_err-rows.ensures.steps) plain.head
+
+pub returns-in_err-let_pass-clause-steps : goal.returns-in_err-let_pass-clause-steps
+returns-in_err-let_pass-clause-steps g c = λ plain test places there are.
+    let few = (rw c.head.ensures at c.in_ok-rows.ensures.steps) plain.head test places there are in
+    let passed = (rw c.filters.ensures at c.in_err-let_pass.ensures.steps) plain.filters in
+    omega (arith, few, passed)
+
+pub returns-in_err-keep_met-clause-steps : goal.returns-in_err-keep_met-clause-steps
+returns-in_err-keep_met-clause-steps g c = λ plain test places there are.
+    let few = (rw c.head.ensures at c.in_ok-rows.ensures.steps) plain.head test places there are in
+    let passed = (rw c.filters.ensures at c.in_ok-let_pass.ensures.steps) plain.filters in
+    let met = (rw (c.as_slice-conds.ensures, c.conds.ensures) at c.in_err-keep_met.ensures.none) plain.conds in
+    omega (arith, few, passed, met)
+
+pub returns-clause-steps : goal.returns-clause-steps
+returns-clause-steps g c = λ plain test places there are.
+    let few = (rw c.head.ensures at c.in_ok-rows.ensures.steps) plain.head test places there are in
+    let passed = (rw c.filters.ensures at c.in_ok-let_pass.ensures.steps) plain.filters in
+    let met = (rw (c.as_slice-conds.ensures, c.conds.ensures) at c.in_ok-keep_met.ensures.none) plain.conds in
+    omega (arith, few, passed, met)

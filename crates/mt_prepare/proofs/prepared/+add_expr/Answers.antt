@@ -3,6 +3,7 @@ use Rattle.mt_text_spec.specs.Queries as q
 use Rattle.mt_query_spec.specs.Contents.{OfBegin, OfEnd, OfWhole, token_tests, tags}
 use Rattle.mt_cql.specs.Shape.{shape, test_shape}
 use Rattle.mt_prepare.specs.Prepared.{AddsReady}
+use Rattle.mt_prepare.proofs.Finding.{found_first, found_then}
 use Rattle.mt_prepare.proofs.Readying.{adds_then, at_place}
 use Rattle.mt_prepare.proofs.prepared.+add_expr.Goals as goal
 
@@ -38,3 +39,14 @@ returns-in-Token-clause-ready g t c = rw c.in-Token.is c.add_test.ensures.ready
 
 pub returns-in-Repeat-clause-ready : goal.returns-in-Repeat-clause-ready
 returns-in-Repeat-clause-ready g t c = rw c.in-Repeat.is (rw c.deref-in-Repeat.ensures at c.add_expr-in-Repeat.ensures.ready)
+
+pub returns-in_err-add_expr-in-Seq-clause-finds : goal.returns-in_err-add_expr-in-Seq-clause-finds
+returns-in_err-add_expr-in-Seq-clause-finds g t c =
+    rw c.in-Seq.is
+    (λ e. found_first c.args.segment.now (token_tests (shape c.in-Seq.left.value)) (token_tests (shape c.in-Seq.right.value)) _ ((rw c.deref.ensures at c.in_err-add_expr-in-Seq.ensures.finds) e.0))
+
+pub returns-in_ok-add_expr-in-Seq-clause-finds : goal.returns-in_ok-add_expr-in-Seq-clause-finds
+returns-in_ok-add_expr-in-Seq-clause-finds g t c =
+    rw c.in-Seq.is
+    (λ e. found_then c.args.segment.now (token_tests (shape c.in-Seq.left.value)) (token_tests (shape c.in-Seq.right.value)) c.args.steps.now c.add_expr.new.steps c.add_expr-in-Seq.new.steps c.in_ok-add_expr-in-Seq.ensures.rises c.add_expr-in-Seq.ensures.rises
+    ((rw c.deref.ensures at c.in_ok-add_expr-in-Seq.ensures.finds) e.0) ((rw c.deref-in-Seq.ensures at c.add_expr-in-Seq.ensures.finds) e.1))

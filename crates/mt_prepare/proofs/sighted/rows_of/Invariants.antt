@@ -1,8 +1,11 @@
 -- The rows of the tests so far.
-use Rattle.std.proofs.Common.{take}
+use Rattle.std.proofs.Common.{◌≤◌, take}
 use Rattle.std.specs.List.{AllZip}
 use Rattle.mt_prepare.specs.Sighted.{IsRowOfResolved}
 use Rattle.mt_prepare.proofs.sighted.rows_of.Given as goal
 
 abbrev pub invariant-loop-test : goal.invariant-loop-test
-invariant-loop-test g l = AllZip (IsRowOfResolved l.segment) (take l.test-index l.tests) l.rows.items
+invariant-loop-test g l = record {
+  rows : AllZip (IsRowOfResolved l.segment) (take l.test-index l.tests) l.rows.items;
+  rises : l.initial.steps ≤ l.steps;
+}

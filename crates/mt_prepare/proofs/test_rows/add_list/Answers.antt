@@ -38,4 +38,5 @@ loop-place-preserved g c =
           | inr later ↦ inr later
         ]
       ];
+      rises = omega (arith, h.rises, c.next.ensures.ticks);
     }

@@ -1,5 +1,5 @@
 -- The places that were passed are in the row, the others are left.
-use Rattle.std.proofs.Common.{◌≡◌, ℕ, ◌⊎◌, length}
+use Rattle.std.proofs.Common.{◌≡◌, ℕ, ◌≤◌, ◌⊎◌, length}
 use Rattle.std.specs.List.{Contains}
 use Rattle.mt_places.specs.Places.{In}
 use Rattle.mt_prepare.proofs.test_rows.add_list.Given as goal
@@ -12,6 +12,7 @@ invariant-loop-place g l =
       kept : (place : ℕ) → In l.initial.row place → In l.row place;
       rest : (place : ℕ) → Contains l.left place → Contains l.list place;
       done : (place : ℕ) → Contains l.list place → In l.row place ⊎ Contains l.left place;
+      rises : l.initial.steps ≤ l.steps;
     }
 
 abbrev pub decreases-loop-place : goal.decreases-loop-place

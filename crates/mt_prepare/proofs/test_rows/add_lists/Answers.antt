@@ -20,8 +20,8 @@ overflow_add-next g c = omega (arith, c.requires.numbers c.in-Some.number c.in-S
 pub loop-number-smaller : goal.loop-number-smaller
 loop-number-smaller g c = omega (arith, c.requires.numbers c.in-Some.number c.in-Some.ensures.found.is_in, c.len-count.ensures.number, ap length c.lexicon.ensures, c.in-Some.ensures.found.from)
 
-pub returns : goal.returns
-returns g c =
+pub returns-clause-row : goal.returns-clause-row
+returns-clause-row g c =
     let tables = c.args.segment.now in
     let attr = c.args.attr in
     let known = c.tokens-tokens.ensures.valid in

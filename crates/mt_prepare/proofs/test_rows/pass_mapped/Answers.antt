@@ -23,8 +23,8 @@ fill-requires-clause-tokens g c =
     let b = whole.bases c.args.attr c.args.base c.requires.attr c.requires.mapped in
     c.tokens-tokens.ensures.count ∙ sym (whole.columns c.args.base b.0 b.1) ∙ ap length (sym c.column.ensures)
 
-pub returns : goal.returns
-returns g c =
+pub returns-clause-row : goal.returns-clause-row
+returns-clause-row g c =
     let tables = c.args.segment.now in
     let attr = c.args.attr in
     let base = c.args.base in
