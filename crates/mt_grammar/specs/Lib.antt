@@ -1,0 +1,5 @@
+pub mod Codes
+pub mod Errors
+pub mod Reading
+pub mod Seen
+pub mod SeenLine
