@@ -1,0 +1,26 @@
+use Rattle.std.proofs.Common.{◌≡◌, ◌+◌, Some, arith, true, refl}
+use Rattle.std.specs.List.{slice_get}
+use Rattle.indexmap.specs.IndexMap.{set_value_at}
+use Rattle.mt_counts.proofs.Totals.{total-raised, count-within}
+use Rattle.mt_counts.proofs.Entries.{classes-set, length-written, raised_at}
+use Rattle.mt_counts.proofs.tally.Tally.raise.Goals as goal
+
+pub invariant_of-self : goal.invariant_of-self
+invariant_of-self c =
+    let entries = c.self.inside.counts.entries in
+    let count = c.get-count.result.1 + c.args.by in
+    let there : slice_get entries c.args.place ≡ Some (c.get-count.result.0, c.get-count.result.1) = rw c.self.view_is c.get-count.ensures in
+    let raised = raised_at entries c.args.place c.get-count.result.0 c.get-count.result.1 c.args.by there in
+    let sum = total-raised (λ key. true) entries (set_value_at entries c.args.place count) c.args.place c.args.by raised in
+    (rw (classes-set entries c.args.place count) c.self.invariant.0, omega (arith, length-written entries c.args.place count, c.self.invariant.1), omega (arith, sum, c.self.invariant.2))
+
+pub returns : goal.returns
+returns c =
+    let entries = c.self.inside.counts.entries in
+    let there : slice_get entries c.args.place ≡ Some (c.get-count.result.0, c.get-count.result.1) = rw c.self.view_is c.get-count.ensures in
+    rw (← c.self.view_is) (raised_at entries c.args.place c.get-count.result.0 c.get-count.result.1 c.args.by there)
+
+pub overflow_add-count : goal.overflow_add-count
+overflow_add-count c =
+    let within = count-within (λ key. true) c.args.self.now c.get-count.result.0 c.get-count.result.1 c.args.place c.get-count.ensures refl in
+    omega (arith, within, c.requires.few)

@@ -1,0 +1,72 @@
+-- What is at the places of a list of counts, and how it grows.
+use Rattle.std.specs.Prelude.{ℕ, ◌≡◌, ◌≢◌, ◌+◌, ◌<◌, List, ◌∷◌, ◌++◌, Bool, length, slice_get, slice_index, Some}
+use Rattle.mt_counts.specs.Totals.{total}
+use Rattle.std.specs.List.{All, AllPairs, Contains}
+
+-- a key stands at a place, with whatever count
+pub record IsAt {K : Type 0} (entries : List (K × ℕ)) (key : K) (place : ℕ) : Type 0 where
+  pub count : ℕ
+  pub there : slice_get entries place ≡ Some (key, count)
+
+-- no key stands at two places
+abbrev pub AreOnce : {K : Type 0} → List (K × ℕ) → Type 0
+AreOnce {K} entries = (key : K) (i j : ℕ) → IsAt entries key i → IsAt entries key j → i ≡ j
+
+-- keys were added behind the others, with the count 0
+pub record Grows {K : Type 0} (old new : List (K × ℕ)) : Type 0 where
+  pub more : List (K × ℕ)
+  pub are : new ≡ old ++ more
+  pub zeros : All (λ e. e.1 ≡ 0) more
+
+-- a pair of the group with a count above 0 stands at the place
+pub record IsPlaced (entries : List ((ℕ × ℕ) × ℕ)) (group place : ℕ) : Type 0 where
+  pub member : ℕ
+  pub count : ℕ
+  pub there : slice_get entries place ≡ Some ((group, member), count)
+  pub some : 0 < count
+
+-- a list of everything that P holds of and of nothing else, each once
+pub record ListsOnce {X : Type 0} (P : X → Type 0) (all : List X) : Type 0 where
+  pub once : AllPairs (λ x y. x ≢ y) all
+  pub only : (x : X) → Contains all x → P x
+  pub each : (x : X) → P x → Contains all x
+
+-- The count at one place is so much higher in the second list, and nothing else differs.
+pub record IsRaised {K : Type 0} (low : List (K × ℕ)) (place by : ℕ) (high : List (K × ℕ)) : Type 0 where
+  pub front : List (K × ℕ)
+  pub key : K
+  pub count : ℕ
+  pub back : List (K × ℕ)
+  pub at : length front ≡ place
+  pub low_is : low ≡ front ++ (key, count) ∷ back
+  pub high_is : high ≡ front ++ (key, count + by) ∷ back
+
+-- groups and members are numbers below these
+abbrev pub HasKeysBelow : (groups members : ℕ) → List ((ℕ × ℕ) × ℕ) → Type 0
+HasKeysBelow groups members entries = (key : ℕ × ℕ) (place : ℕ) → IsAt entries key place → (key.0 < groups) × (key.1 < members)
+
+-- each of the numbers is below a limit
+abbrev pub AreBelow : (limit : ℕ) → List ℕ → Type 0
+AreBelow limit numbers = (k : ℕ) → k < length numbers → slice_index numbers k < limit
+
+-- each pair stands among others at its place there, where its group and member have other numbers
+pub record AreMoved (entries others : List ((ℕ × ℕ) × ℕ)) (groups members places : List ℕ) : Type 0 where
+  pub count : length places ≡ length entries
+  pub each : (key : ℕ × ℕ) (k : ℕ) → IsAt entries key k → IsAt others (slice_index groups key.0, slice_index members key.1) (slice_index places k)
+
+-- each entry has a place among the others
+pub record HavePlaces {K L : Type 0} (entries : List (K × ℕ)) (others : List (L × ℕ)) (places : List ℕ) : Type 0 where
+  pub count : length places ≡ length entries
+  pub within : (k : ℕ) → k < length entries → slice_index places k < length others
+
+-- The counts of entries were added at their places: where a test of keys there says what another says of the entries, their totals are added up.
+abbrev pub AreAdded : {K L : Type 0} (old : List (L × ℕ)) (entries : List (K × ℕ)) (places : List ℕ) (new : List (L × ℕ)) → Type 0
+AreAdded {K} {L} old entries places new =
+    (p : L → Bool) (q : K → Bool) → ((key : K) (other : L) (k : ℕ) → IsAt entries key k → IsAt old other (slice_index places k) → p other ≡ q key) → total p new ≡ total p old + total q entries
+
+-- Keys may have been added, with the count 0, and then the count of this key, which stands at this place, has risen by one.
+pub record IsCounted {K : Type 0} (old : List (K × ℕ)) (key : K) (place : ℕ) (new : List (K × ℕ)) : Type 0 where
+  pub grown : List (K × ℕ)
+  pub grows : Grows old grown
+  pub at : IsAt grown key place
+  pub raised : IsRaised grown place 1 new

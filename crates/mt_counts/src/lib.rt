@@ -1,0 +1,24 @@
+//! Counts of what stands together: how often two words stand in a relation, how often one does with any other, and how often a word stands in a unary relation.
+//!
+//! Names and words are numbered once, and counts are kept by numbers. Tables of counts are added and subtracted at the cost of the table that is given.
+#![tactic(auto)]
+
+mod builder;
+mod counts;
+mod listing;
+mod names;
+mod tables;
+mod tally;
+
+pub use builder::Counting;
+pub use counts::Counts;
+pub use listing::Head;
+
+fn shared<T: Send + Sync>() {}
+
+/// That threads may share counts is proved by this function.
+pub fn are_shared() {
+    shared::<Counts>();
+    shared::<Counting>();
+    shared::<Head>();
+}

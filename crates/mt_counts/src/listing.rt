@@ -1,0 +1,91 @@
+//! What stands with a word.
+
+ghost use Rattle.std.specs.Prelude.{◌≡◌, ℕ, ◌<◌, ◌++◌, length, map, slice_index, IfOk, OnOk};
+ghost use Rattle.mt_counts.specs.Listed.{IsHead, head_at};
+ghost use Rattle.mt_counts.specs.Tables.{AreInside, counted, text_at};
+ghost use Rattle.mt_counts.specs.Tallies.{IsAt, ListsOnce};
+
+use super::counts::Counts;
+use super::names::Names;
+use super::tables::Tables;
+use super::tally::Tally;
+use mt_base::{List, NoMemory, Value};
+use std::alloc::Global;
+
+/// A name that a word stands under.
+#[derive(Drop)]
+pub struct Head {
+    pub name: Value,
+    /// Whether the name is that of a unary relation.
+    pub unary: bool,
+    /// How often the word stands under it: as its first word, with any second one, or as its one word.
+    pub count: u64,
+}
+
+impl Counts {
+    /// The names under which a word stands, each once, in any order. It costs by how many they are.
+    pub fn heads(&self, alloc: Global, word: &str) -> Result<List<Head>, NoMemory>
+        ensures { IfOk result (λ heads. ListsOnce (IsHead self.now word.now) heads) }
+    {
+        let word = Value::new(alloc, word)?;
+        match self.tables.words.find(&word) {
+            Some(x) => self.tables.heads(alloc, x),
+            None => Ok(List::new(alloc)),
+        }
+    }
+}
+
+impl Tables {
+    /// The names under which the word with a number stands.
+    fn heads(&self, alloc: Global, word: u32) -> Result<List<Head>, NoMemory>
+        requires inside { AreInside self.now }
+        requires word { word < length self.now.words }
+        ensures { IfOk result (λ heads. ListsOnce (IsHead (counted self.now) (text_at self.now.words word)) heads) }
+    {
+        self.names.len();
+        self.words.len();
+        self.rows.len();
+        self.alone.len();
+        let rows = self.rows.places(alloc, word)?;
+        let alone = self.alone.places(alloc, word)?;
+        let mut heads = List::new(alloc);
+        add_heads(
+            alloc,
+            &self.names,
+            &self.rows,
+            rows.as_slice(),
+            false,
+            &mut heads,
+        )?;
+        add_heads(
+            alloc,
+            &self.names,
+            &self.alone,
+            alone.as_slice(),
+            true,
+            &mut heads,
+        )?;
+        Ok(heads)
+    }
+}
+
+/// Adds the names at some places of a tally.
+fn add_heads(
+    alloc: Global,
+    names: &Names,
+    tally: &Tally,
+    places: &[u32],
+    unary: bool,
+    heads: &mut List<Head>,
+) -> Result<(), NoMemory>
+    requires places { (k : ℕ) → k < length places.now → slice_index places.now k < length tally.now }
+    requires names { (key : ℕ × ℕ) (place : ℕ) → IsAt tally.now key place → key.1 < length names.now }
+    ensures { OnOk result (heads.new ≡ heads.old ++ map (head_at names.now tally.now unary) places.now) }
+{
+    for place in places {
+        let ((_, name), count) = tally.get(*place as usize);
+        let name = names.get(name as usize).copy(alloc)?;
+        heads.push(Head { name, unary, count })?;
+    }
+    Ok(())
+}

@@ -1,0 +1,114 @@
+//! Tables of counts by numbers.
+
+ghost use Rattle.std.specs.Prelude.{◌≡◌, ◌+◌, ◌^◌, ◌<◌, [], length, IfOk, OnOk};
+ghost use Rattle.mt_counts.specs.Counted.{IsSum, of_one, of_two};
+ghost use Rattle.mt_counts.specs.Tables.{AreAllAdded, AreAllMoved, AreGrown, AreInside, counted, text_at};
+ghost use Rattle.mt_counts.specs.Totals.{total_of_all};
+
+use super::names::Names;
+use super::tally::Tally;
+use mt_base::NoMemory;
+use std::alloc::Global;
+
+/// Names and words with their numbers, and counts: of rows, which are pairs of a word and a name; of pairs of a row and a second word; of pairs of a second word and
+/// a name; and of pairs of a word and the name of a unary relation.
+#[derive(Drop)]
+pub(crate) struct Tables {
+    pub(crate) names: Names,
+    pub(crate) words: Names,
+    pub(crate) rows: Tally,
+    pub(crate) both: Tally,
+    pub(crate) columns: Tally,
+    pub(crate) alone: Tally,
+}
+
+/// Where the pairs of some tables stand in others.
+#[derive(Drop)]
+pub(crate) struct Moves {
+    rows: Vec<u32>,
+    both: Vec<u32>,
+    columns: Vec<u32>,
+    alone: Vec<u32>,
+}
+
+impl Tables {
+    /// Nothing is counted. It takes no memory.
+    pub(crate) fn new(alloc: Global) -> Self
+        ensures { result ≡ record { names = []; words = []; rows = []; both = []; columns = []; alone = [] } }
+    {
+        Tables {
+            names: Names::new(alloc),
+            words: Names::new(alloc),
+            rows: Tally::new(alloc),
+            both: Tally::new(alloc),
+            columns: Tally::new(alloc),
+            alone: Tally::new(alloc),
+        }
+    }
+
+    /// Makes a place for all that the others have.
+    pub(crate) fn reserve(&mut self, alloc: Global, others: &Tables) -> Result<Moves, NoMemory>
+        requires { AreInside others.now }
+        ensures grown { AreGrown self.old self.new }
+        ensures moved { IfOk result (λ moves. AreAllMoved others.now self.new moves) }
+    {
+        let names = self.names.add_all(alloc, &others.names)?;
+        let words = self.words.add_all(alloc, &others.words)?;
+        let rows = self.rows.places_of(alloc, &others.rows, &words, &names)?;
+        let both = self.both.places_of(alloc, &others.both, &rows, &words)?;
+        let columns = self
+            .columns
+            .places_of(alloc, &others.columns, &words, &names)?;
+        let alone = self.alone.places_of(alloc, &others.alone, &words, &names)?;
+        Ok(Moves {
+            rows,
+            both,
+            columns,
+            alone,
+        })
+    }
+
+    /// Adds the counts of the others at their places. It takes no memory.
+    pub(crate) fn raise_all(&mut self, others: &Tables, moves: &Moves)
+        requires moved { AreAllMoved others.now self.old moves.now }
+        requires rows { total_of_all self.old.rows + total_of_all others.now.rows < 2 ^ 64 }
+        requires both { total_of_all self.old.both + total_of_all others.now.both < 2 ^ 64 }
+        requires columns { total_of_all self.old.columns + total_of_all others.now.columns < 2 ^ 64 }
+        requires alone { total_of_all self.old.alone + total_of_all others.now.alone < 2 ^ 64 }
+        ensures { AreAllAdded self.old others.now moves.now self.new }
+    {
+        self.rows.raise_all(&others.rows, &moves.rows);
+        self.both.raise_all(&others.both, &moves.both);
+        self.columns.raise_all(&others.columns, &moves.columns);
+        self.alone.raise_all(&others.alone, &moves.alone);
+    }
+
+    /// Counts a name with two words.
+    pub(crate) fn count_two(&mut self, name: u32, first: u32, second: u32) -> Result<(), NoMemory>
+        requires name { name < length self.old.names }
+        requires first { first < length self.old.words }
+        requires second { second < length self.old.words }
+        ensures names { self.new.names ≡ self.old.names }
+        ensures words { self.new.words ≡ self.old.words }
+        ensures inside { AreInside self.old → AreInside self.new }
+        ensures ok { OnOk result (AreInside self.old → IsSum (counted self.old) (of_two (text_at self.old.names name) (text_at self.old.words first) (text_at self.old.words second)) (counted self.new)) }
+    {
+        let row = self.rows.count(first, name)?;
+        self.both.count(row, second)?;
+        self.columns.count(second, name)?;
+        Ok(())
+    }
+
+    /// Counts a unary name with a word.
+    pub(crate) fn count_one(&mut self, name: u32, word: u32) -> Result<(), NoMemory>
+        requires name { name < length self.old.names }
+        requires word { word < length self.old.words }
+        ensures names { self.new.names ≡ self.old.names }
+        ensures words { self.new.words ≡ self.old.words }
+        ensures inside { AreInside self.old → AreInside self.new }
+        ensures ok { OnOk result (AreInside self.old → IsSum (counted self.old) (of_one (text_at self.old.names name) (text_at self.old.words word)) (counted self.new)) }
+    {
+        self.alone.count(word, name)?;
+        Ok(())
+    }
+}

@@ -1,0 +1,229 @@
+//! Counts by pairs of numbers.
+
+ghost use Rattle.std.specs.Prelude.{◌≡◌, ℕ, ◌+◌, ◌-◌, ◌^◌, ◌<◌, ◌≤◌, [], length, slice_get, slice_index, Some, IfOk, IfSome, IfNone, OnErr, OnOk};
+ghost use Rattle.std.specs.Map.{keys_of};
+ghost use Rattle.mt_counts.specs.Tallies.{AreAdded, AreBelow, AreMoved, AreOnce, Grows, HasKeysBelow, HavePlaces, IsAt, IsCounted, IsPlaced, IsRaised, ListsOnce};
+ghost use Rattle.mt_counts.specs.Totals.{total_of_all};
+
+use indexmap::IndexMap;
+use mt_base::NoMemory;
+use std::alloc::Global;
+use std::marker::Model;
+
+/// Counts by pairs of a group and a member, fewer than 2^32 of them. A pair keeps its place, counted from 0, also where its count is 0. The pairs of a group are
+/// found by a chain, from the last to the first.
+#[derive(Drop)]
+pub(crate) struct Tally {
+    counts: IndexMap<(u32, u32), u64>,
+    belows: Vec<u32>,
+    ends: Vec<u32>,
+    sum: u64,
+}
+
+impl Model for Tally {
+    ghost use Rattle.std.specs.Prelude.{ℕ, List, ◌^◌, ◌<◌, length};
+    ghost use Rattle.std.specs.Prelude.{◌≡◌};
+    ghost use Rattle.mt_counts.specs.Chains.{AreChained, classes};
+    ghost use Rattle.mt_counts.specs.Totals.{total_of_all};
+
+    ghost Value = { List ((ℕ × ℕ) × ℕ) };
+
+    ghost view = { λ t. t.counts.entries };
+
+    ghost invariant = { λ t. AreChained (classes t.counts.entries) t.belows.items t.ends.items × (length t.counts.entries < 2 ^ 32) × (t.sum ≡ total_of_all t.counts.entries) };
+}
+
+impl Tally {
+    /// No counts. It takes no memory.
+    pub(crate) fn new(alloc: Global) -> Self
+        ensures { result ≡ [] }
+    {
+        Tally {
+            counts: IndexMap::new(alloc),
+            belows: Vec::new(alloc),
+            ends: Vec::new(alloc),
+            sum: 0,
+        }
+    }
+
+    /// How many pairs have a place.
+    pub(crate) fn len(&self) -> usize
+        ensures count { result ≡ length self.now }
+        ensures few { result < 2 ^ 32 }
+        ensures once { AreOnce self.now }
+    {
+        self.counts.len()
+    }
+
+    /// All counts together.
+    pub(crate) fn sum(&self) -> u64
+        ensures { result ≡ total_of_all self.now }
+    {
+        self.sum
+    }
+
+    /// The pair at a place, and its count.
+    pub(crate) fn get(&self, place: usize) -> ((u32, u32), u64)
+        requires { place < length self.now }
+        ensures { slice_get self.now place ≡ Some result }
+    {
+        match self.counts.get_index(place) {
+            Some((key, count)) => (*key, *count),
+            None => unreachable!(),
+        }
+    }
+
+    /// The place of a pair.
+    pub(crate) fn find(&self, group: u32, member: u32) -> Option<u32>
+        ensures found { IfSome result (λ place. IsAt self.now (group, member) place) }
+        ensures none { IfNone result ((place : ℕ) → IsAt self.now (group, member) place → ⊥) }
+    {
+        match self.counts.get_index_of(&(group, member)) {
+            Some(place) => Some(place as u32),
+            None => None,
+        }
+    }
+    /// The place of a pair. A new pair has the count 0.
+    pub(crate) fn place(&mut self, group: u32, member: u32) -> Result<u32, NoMemory>
+        ensures grows { Grows self.old self.new }
+        ensures place { IfOk result (λ place. IsAt self.new (group, member) place) }
+        ensures below { (groups members : ℕ) → HasKeysBelow groups members self.old → group < groups → member < members → HasKeysBelow groups members self.new }
+    {
+        match self.find(group, member) {
+            Some(place) => Ok(place),
+            None => self.add(group, member),
+        }
+    }
+
+    /// Adds a pair that has no place, with the count 0.
+    fn add(&mut self, group: u32, member: u32) -> Result<u32, NoMemory>
+        requires { (place : ℕ) → IsAt self.old (group, member) place → ⊥ }
+        ensures grows { Grows self.old self.new }
+        ensures place { IfOk result (λ place. IsAt self.new (group, member) place) }
+        ensures below { (groups members : ℕ) → HasKeysBelow groups members self.old → group < groups → member < members → HasKeysBelow groups members self.new }
+    {
+        let place = self.counts.len();
+        if place >= u32::MAX as usize {
+            return Err(NoMemory);
+        }
+        make_room(&mut self.ends, group as usize)?;
+        self.belows.push(self.ends[group as usize])?;
+        match self.counts.insert((group, member), 0) {
+            Ok(_) => {}
+            Err(_) => {
+                self.belows.truncate(place);
+                return Err(NoMemory);
+            }
+        }
+        self.ends[group as usize] = place as u32 + 1;
+        Ok(place as u32)
+    }
+
+    /// Adds to the count at a place. It takes no memory.
+    pub(crate) fn raise(&mut self, place: usize, by: u64)
+        requires few { total_of_all self.old + by < 2 ^ 64 }
+        requires within { place < length self.old }
+        ensures { IsRaised self.old place by self.new }
+    {
+        let (_, count) = self.get(place);
+        self.counts[place] = count + by;
+        self.sum += by;
+    }
+
+    /// Adds one to the count of a pair. All counts together are below 2^64; one more is refused as by want of memory.
+    pub(crate) fn count(&mut self, group: u32, member: u32) -> Result<u32, NoMemory>
+        ensures counted { IfOk result (λ place. IsCounted self.old (group, member) place self.new) }
+        ensures grown { OnErr result (Grows self.old self.new) }
+        ensures longer { length self.old ≤ length self.new }
+        ensures below { (g m : ℕ) → HasKeysBelow g m self.old → group < g → member < m → HasKeysBelow g m self.new }
+    {
+        let place = self.place(group, member)?;
+        if self.sum == u64::MAX {
+            return Err(NoMemory);
+        }
+        self.raise(place as usize, 1);
+        Ok(place)
+    }
+
+    /// Takes from the count at a place. It takes no memory.
+    pub(crate) fn lower(&mut self, place: usize, by: u64)
+        requires few { (key : ℕ × ℕ) (count : ℕ) → slice_get self.old place ≡ Some (key, count) → by ≤ count }
+        requires within { place < length self.old }
+        ensures { IsRaised self.new place by self.old }
+    {
+        let (_, count) = self.get(place);
+        self.counts[place] = count - by;
+        self.sum -= by;
+    }
+
+    /// The place here of each pair of another tally, where its groups and members have these numbers.
+    pub(crate) fn places_of(
+        &mut self,
+        alloc: Global,
+        other: &Tally,
+        groups: &[u32],
+        members: &[u32],
+    ) -> Result<Vec<u32>, NoMemory>
+        requires { HasKeysBelow (length groups.now) (length members.now) other.now }
+        ensures grows { Grows self.old self.new }
+        ensures places { IfOk result (λ places. AreMoved other.now self.new groups.now members.now places.items) }
+        ensures below { (g m : ℕ) → HasKeysBelow g m self.old → AreBelow g groups.now → AreBelow m members.now → HasKeysBelow g m self.new }
+    {
+        let mut places = Vec::with_capacity(alloc, other.len())?;
+        for k in 0..other.len() {
+            let ((group, member), _) = other.get(k);
+            let place = self.place(groups[group as usize], members[member as usize])?;
+            places.push(place)?;
+        }
+        Ok(places)
+    }
+
+    /// Adds each count of another tally to the one at its place here. It takes no memory.
+    pub(crate) fn raise_all(&mut self, other: &Tally, places: &[u32])
+        requires places { HavePlaces other.now self.old places.now }
+        requires few { total_of_all self.old + total_of_all other.now < 2 ^ 64 }
+        ensures keys { keys_of self.new ≡ keys_of self.old }
+        ensures added { AreAdded self.old other.now places.now self.new }
+    {
+        for k in 0..other.len() {
+            let (_, count) = other.get(k);
+            self.raise(places[k] as usize, count);
+        }
+    }
+
+    /// The places of the pairs of a group whose counts are not 0.
+    pub(crate) fn places(&self, alloc: Global, group: u32) -> Result<Vec<u32>, NoMemory>
+        ensures { IfOk result (λ places. ListsOnce (IsPlaced self.now group) places.items) }
+    {
+        let mut places = Vec::new(alloc);
+        let mut below = end_at(self.ends.as_slice(), group as usize);
+        while below > 0 {
+            let place = below - 1;
+            if self.get(place as usize).1 > 0 {
+                places.push(place)?;
+            }
+            below = self.belows[place as usize];
+        }
+        Ok(places)
+    }
+}
+
+/// The end of a class, 0 where it has none.
+fn end_at(ends: &[u32], class: usize) -> u32
+    ensures { result ≡ slice_index ends.now class }
+{
+    if class < ends.len() { ends[class] } else { 0 }
+}
+
+/// Makes room for the end of a class.
+fn make_room(ends: &mut Vec<u32>, class: usize) -> Result<(), NoMemory>
+    requires { class < 2 ^ 32 }
+    ensures room { OnOk result (class < length ends.new.items) }
+    ensures same { (k : ℕ) → slice_index ends.new.items k ≡ slice_index ends.old.items k }
+{
+    if class < ends.len() {
+        return Ok(());
+    }
+    ends.resize(class + 1, 0)?;
+    Ok(())
+}
