@@ -1,0 +1,11 @@
+pub mod Has
+pub mod Live
+pub mod Struck
+pub mod More
+pub mod Segments
+pub mod Holding
+pub mod Agree
+pub mod Empty
+pub mod Sizes
+pub mod Calls
+pub mod Kept
