@@ -1,15 +1,15 @@
 -- Lines that tell of a failure of the shelf.
-use Rattle.std.proofs.Common.{◌≡◌, ℕ, zero, suc, ◌+◌, ◌<◌, ◌≤◌, Bool, true, false, List, [], ◌∷◌, ◌++◌, length, get_or, arith, refl, sym, ◌∙◌, ap, subst, codes, cond}
-use Rattle.std.specs.List.{Contains, count_by, flat_map}
+use Rattle.std.proofs.Common.{◌≡◌, ℕ, zero, suc, ◌+◌, ◌<◌, ◌≤◌, Bool, true, false, List, [], ◌∷◌, ◌++◌, length, get_or, arith, refl, sym, ap, subst, codes, cond}
+use Rattle.std.specs.List.{Contains, count_by}
 use Rattle.std.specs.Str.{bytes_eq}
 use Rattle.std.proofs.lemmas.List.{append_cancel_left}
 use Rattle.std.proofs.lemmas.List.Sums.{sum_by-append, sum_by-cons}
 use Rattle.std.proofs.lemmas.Slice.Eq.{bytes_eq-Decides}
 use Rattle.mt_session_spec.specs.Gains.{Gained}
 use Rattle.mt_session_spec.specs.Refusals as refusal
-use Rattle.mt_session_spec.specs.Refusals.{Refusal, refusal_line, failure_line, no_memory_line}
-use Rattle.mt_session_spec.specs.Answers.{Answer, Refused, lines_of}
-use Rattle.mt_session_spec.specs.Laws.{told_failures}
+use Rattle.mt_session_spec.specs.Refusals.{Refusal, refusal_line, failure_line, no_memory_line, pattern_refused_line}
+use Rattle.mt_session_spec.specs.Answers.{Answer, Refused, Lines}
+use Rattle.mt_session_spec.specs.Laws.{tells_failure, told_failures}
 
 -- ## Which lines tell of one
 
@@ -32,8 +32,16 @@ no_failure (refusal.FileTooLong long) file e = apart 49 50 49 50 refl refl (omeg
 no_failure (refusal.BadRegistry line cause) file e = apart 49 50 49 50 refl refl (omega arith) (ap third e)
 no_failure refusal.NoAttribute file e = apart 49 50 49 50 refl refl (omega arith) (ap third e)
 no_failure (refusal.BadVertical line cause) file e = apart 49 50 49 50 refl refl (omega arith) (ap third e)
+no_failure (refusal.BadQuery at cause) file e = apart 49 50 49 50 refl refl (omega arith) (ap third e)
 no_failure (refusal.UnknownName name) file e = apart 49 50 49 50 refl refl (omega arith) (ap third e)
+no_failure (refusal.BadPattern k) file e = apart 48 57 48 57 refl refl (omega arith) (ap fourth e)
+no_failure refusal.TooManyRows file e = apart 50 57 50 57 refl refl (omega arith) (ap fourth e)
 no_failure refusal.CorpusFull file e = apart 51 57 51 57 refl refl (omega arith) (ap fourth e)
+no_failure refusal.QueryTooLarge file e = apart 55 57 55 57 refl refl (omega arith) (ap fourth e)
+no_failure (refusal.NoSuchText name) file e = apart 50 51 50 51 refl refl (omega arith) (sym (ap third e))
+
+pub no_refused : (k : ℕ) (file : List ℕ) → pattern_refused_line k ≡ failure_line file → ⊥
+no_refused k file e = apart 49 57 49 57 refl refl (omega arith) (ap fourth e)
 
 pub no_want : (file : List ℕ) → no_memory_line ≡ failure_line file → ⊥
 no_want file e = apart 50 51 50 51 refl refl (omega arith) (sym (ap third e))
@@ -41,26 +49,19 @@ no_want file e = apart 50 51 50 51 refl refl (omega arith) (sym (ap third e))
 same_file : (file other : List ℕ) → failure_line other ≡ failure_line file → other ≡ file
 same_file file other e = append_cancel_left (codes "! 29 ShelfFailed ") other file e
 
--- a line whose first byte is another
-pub begins_else : (first : ℕ) (rest file : List ℕ) → 33 < first → first ∷ rest ≡ failure_line file → ⊥
-begins_else first rest file high e = let same : first ≡ 33 = ap (λ (line : List ℕ). get_or line 0 0) e in omega arith
-
 -- ## Counts
 
--- a line that tells of none
-pub none_told : (line file : List ℕ) (lines : List (List ℕ)) → (line ≡ failure_line file → ⊥) → count_by (λ l. bytes_eq l (failure_line file)) lines ≡ 0 →
-    count_by (λ l. bytes_eq l (failure_line file)) (line ∷ lines) ≡ 0
-none_told line file lines none rest = by (bytes_eq line (failure_line file)) refl
-  where
-    by : (b : Bool) → bytes_eq line (failure_line file) ≡ b → count_by (λ l. bytes_eq l (failure_line file)) (line ∷ lines) ≡ 0
-    by true e = absurd (none ((bytes_eq-Decides line (failure_line file)).0 e))
-    by false e =
-        let all : count_by (λ l. bytes_eq l (failure_line file)) (line ∷ lines) ≡ cond (bytes_eq line (failure_line file)) 1 0 + count_by (λ l. bytes_eq l (failure_line file)) lines = sum_by-cons (λ (l : List ℕ). cond (bytes_eq l (failure_line file)) 1 0) line lines in
-        let zero_one : cond (bytes_eq line (failure_line file)) 1 0 ≡ zero = ap (λ (b : Bool). cond b 1 0) e in
-        omega (arith, all, zero_one, rest)
+-- an answer of lines tells of none
+pub none_told : (answer : Answer) (lines : List (List ℕ)) (file : List ℕ) → answer ≡ Lines lines → told_failures file (answer ∷ []) ≡ 0
+none_told answer lines file e = ap (λ (a : Answer). told_failures file (a ∷ [])) e
 
+-- a line that tells of none
 pub one_untold : (line file : List ℕ) → (line ≡ failure_line file → ⊥) → told_failures file (Refused line ∷ []) ≡ 0
-one_untold line file none = none_told line file [] none refl
+one_untold line file none = by (bytes_eq line (failure_line file)) refl
+  where
+    by : (b : Bool) → bytes_eq line (failure_line file) ≡ b → told_failures file (Refused line ∷ []) ≡ 0
+    by true e = absurd (none ((bytes_eq-Decides line (failure_line file)).0 e))
+    by false e = ap (λ (b : Bool). 0 + cond b 1 0) e
 
 one_there : (file : List ℕ) (xs : List (List ℕ)) (k : ℕ) → k < length xs → get_or xs k file ≡ file → 0 < count_by (λ name. bytes_eq name file) xs
 one_there file [] k l e = absurd (omega arith)
@@ -78,27 +79,20 @@ one_there file (x ∷ xs) (suc k) l e =
 pub one_told : (other file : List ℕ) (gained : Gained) → Contains gained.failed other → told_failures file (Refused (failure_line other) ∷ []) ≤ count_by (λ name. bytes_eq name file) gained.failed
 one_told other file gained there = by (bytes_eq (failure_line other) (failure_line file)) refl
   where
-    all : told_failures file (Refused (failure_line other) ∷ []) ≡ cond (bytes_eq (failure_line other) (failure_line file)) 1 0 + 0
-    all = sum_by-cons (λ (l : List ℕ). cond (bytes_eq l (failure_line file)) 1 0) (failure_line other) []
-
     by : (b : Bool) → bytes_eq (failure_line other) (failure_line file) ≡ b → told_failures file (Refused (failure_line other) ∷ []) ≤ count_by (λ name. bytes_eq name file) gained.failed
     by true e =
         let same : other ≡ file = same_file file other ((bytes_eq-Decides (failure_line other) (failure_line file)).0 e) in
         let at = subst (λ (name : List ℕ). Contains gained.failed name) same there in
         let one = one_there file gained.failed at.0 at.1 at.2 in
-        let count : told_failures file (Refused (failure_line other) ∷ []) ≡ 1 + 0 = all ∙ ap (λ (b : Bool). cond b 1 0 + 0) e in
+        let count : told_failures file (Refused (failure_line other) ∷ []) ≡ 1 = ap (λ (b : Bool). 0 + cond b 1 0) e in
         omega (arith, one, count)
     by false e =
-        let count : told_failures file (Refused (failure_line other) ∷ []) ≡ 0 + 0 = all ∙ ap (λ (b : Bool). cond b 1 0 + 0) e in
+        let count : told_failures file (Refused (failure_line other) ∷ []) ≡ 0 = ap (λ (b : Bool). 0 + cond b 1 0) e in
         omega (arith, count)
 
 -- the counts of two parts
 pub told_then : (answer : Answer) (answers : List Answer) (file : List ℕ) → told_failures file (answer ∷ answers) ≡ told_failures file (answer ∷ []) + told_failures file answers
-told_then answer answers file =
-    let size : List ℕ → ℕ = λ l. cond (bytes_eq l (failure_line file)) 1 0 in
-    let one : told_failures file (answer ∷ []) ≡ count_by (λ l. bytes_eq l (failure_line file)) (lines_of answer) + 0 = sum_by-append size (lines_of answer) [] in
-    let all : told_failures file (answer ∷ answers) ≡ count_by (λ l. bytes_eq l (failure_line file)) (lines_of answer) + told_failures file answers = sum_by-append size (lines_of answer) (flat_map lines_of answers) in
-    omega (arith, one, all)
+told_then answer answers file = sum_by-append (λ (a : Answer). cond (tells_failure file a) 1 0) (answer ∷ []) answers
 
 pub gained_split : (here later : Gained) (file : List ℕ) → count_by (λ name. bytes_eq name file) (here.failed ++ later.failed) ≡
     count_by (λ name. bytes_eq name file) here.failed + count_by (λ name. bytes_eq name file) later.failed

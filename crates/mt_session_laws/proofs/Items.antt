@@ -5,13 +5,14 @@ use Rattle.std.specs.Str.{bytes_eq}
 use Rattle.mt_script_spec.specs.Script.{Item, Given, Bad, CutShort}
 use Rattle.mt_shelf_spec.specs.Files.{Files}
 use Rattle.mt_session_spec.specs.World.{World, Held, ValidHeld, first_held}
-use Rattle.mt_session_spec.specs.Settings.{Setting}
+use Rattle.mt_session_spec.specs.Settings.{Setting, images_of}
 use Rattle.mt_session_spec.specs.Gains.{Gained, none_gained, gained_then}
 use Rattle.mt_session_spec.specs.Refusals.{Refusal, refusal_line, no_memory_line, BadCommand, CutShort as CutShortRefusal}
 use Rattle.mt_session_spec.specs.Answers.{Answer, Refused}
-use Rattle.mt_session_spec.specs.Steps.{Meant}
-use Rattle.mt_session_spec.specs.Replies.{ItemStep, FineItem, IsNoCommand, Known, known_after, Replies, NoReplies, ThenReply, AreAnswers, NoAnswers, ThenAnswer, NoneStarved}
-use Rattle.mt_session_spec.specs.Laws.{IsSaidItem, SomeMeaning, OneMeaning, StepsKeepValid, SomeAnswers, OneAnswers, RepliesAreAnswers, FailuresAreGained, told_failures}
+use Rattle.mt_session_spec.specs.Scenes.{Scene, scene_of}
+use Rattle.mt_session_spec.specs.Steps.{Meant, AskStep}
+use Rattle.mt_session_spec.specs.Replies.{ItemStep, FineItem, IsNoCommand, Known, known_after, Replies, NoReplies, ThenReply, AreAnswers, NoAnswers, ThenAnswer, NoneStarved, AsksDeep, NoneDeep}
+use Rattle.mt_session_spec.specs.Laws.{IsSaidItem, SomeMeaning, OneMeaning, StepsKeepValid, QuestionsSeeTheCorpus, SomeAnswers, OneAnswers, RepliesAreAnswers, FailuresAreGained, told_failures}
 use Rattle.mt_session_laws.proofs.Failures.{no_failure, one_untold, told_then, gained_split}
 use Rattle.mt_session_laws.proofs.Meanings.{fine_step, told_step}
 use Rattle.mt_session_laws.proofs.Worlds.{first_valid}
@@ -43,11 +44,11 @@ item_keeps law setting world (Given command) valid said new answer f = law setti
 item_keeps law setting world Bad valid said new answer f = subst (λ (w : World). ValidHeld w.held) (sym f.same) valid
 item_keeps law setting world CutShort valid said new answer f = subst (λ (w : World). ValidHeld w.held) (sym f.same) valid
 
-fine_item : (setting : Setting) (world : World) (item : Item) (gained : Gained) (new : World) (answer : Answer) → gained ≡ none_gained → (answer ≡ Refused no_memory_line → ⊥) → ItemStep setting world item gained new answer →
-    FineItem setting world item new answer
-fine_item setting world (Given command) gained new answer e ne s = fine_step setting world command gained new answer e ne s
-fine_item setting world Bad gained new answer e ne s = record { none = refl; same = s.same; says = s.says }
-fine_item setting world CutShort gained new answer e ne s = record { none = refl; same = s.same; says = s.says }
+fine_item : (setting : Setting) (world : World) (item : Item) (gained : Gained) (new : World) (answer : Answer) → (AsksDeep item → ⊥) → gained ≡ none_gained → (answer ≡ Refused no_memory_line → ⊥) →
+    ItemStep setting world item gained new answer → FineItem setting world item new answer
+fine_item setting world (Given command) gained new answer none e ne s = fine_step setting world command gained new answer none e ne s
+fine_item setting world Bad gained new answer none e ne s = record { none = refl; same = s.same; says = s.says }
+fine_item setting world CutShort gained new answer none e ne s = record { none = refl; same = s.same; says = s.says }
 
 item_told : (setting : Setting) (world : World) (item : Item) (gained : Gained) (new : World) (answer : Answer) (file : List ℕ) → ItemStep setting world item gained new answer →
     told_failures file (answer ∷ []) ≤ count_by (λ name. bytes_eq name file) gained.failed
@@ -56,6 +57,13 @@ item_told setting world Bad gained new answer file s =
     let none : told_failures file (answer ∷ []) ≡ 0 = ap (λ (a : Answer). told_failures file (a ∷ [])) s.says ∙ one_untold (refusal_line BadCommand) file (no_failure BadCommand file) in omega (arith, none)
 item_told setting world CutShort gained new answer file s =
     let none : told_failures file (answer ∷ []) ≡ 0 = ap (λ (a : Answer). told_failures file (a ∷ [])) s.says ∙ one_untold (refusal_line CutShortRefusal) file (no_failure CutShortRefusal file) in omega (arith, none)
+
+-- ## Questions
+
+pub questions_see : QuestionsSeeTheCorpus
+questions_see setting held other ask r c g gained answer a =
+    let same : scene_of setting held ≡ scene_of setting other = λ i. record { images = images_of setting; registry = r i; corpus = c i; grammar = g i } in
+    subst (λ (scene : Scene). AskStep scene ask gained answer) same a
 
 -- ## Many items
 
@@ -105,25 +113,25 @@ none_here here later e =
     let made : List (List ℕ) → List (List ℕ) → Gained = λ failed refused. record { failed = failed; refused = refused } in
     (ap (λ x. made x here.refused) f.0 ∙ ap (λ x. made [] x) r.0, ap (λ x. made x later.refused) f.1 ∙ ap (λ x. made [] x) r.1)
 
-replied : (setting : Setting) (items : List Item) (known : Known) (held : Held) (files : Files) (gained : Gained) (answers : List Answer) (last : Known) → known ≡ known_by held files → gained ≡ none_gained → NoneStarved answers →
+replied : (setting : Setting) (items : List Item) (known : Known) (held : Held) (files : Files) (gained : Gained) (answers : List Answer) (last : Known) → known ≡ known_by held files → gained ≡ none_gained → NoneStarved answers → NoneDeep items →
     Replies setting items known gained answers last → Replied setting items held files answers
-replied setting [] known held files gained answers last k e ne (NoReplies at) = record { last = record { held = held; files = files }; are = NoAnswers (record { held = held; files = files }) }
-replied setting (item ∷ items) known held files gained answers last k e ne (ThenReply i is at next l here later answer more s r) =
+replied setting [] known held files gained answers last k e ne none (NoReplies at) = record { last = record { held = held; files = files }; are = NoAnswers (record { held = held; files = files }) }
+replied setting (item ∷ items) known held files gained answers last k e ne none (ThenReply i is at next l here later answer more s r) =
     let parts = none_here here later e in
     let held_is : (s.world).held ≡ held = (s.may_be).held ∙ ap (λ (x : Known). x.held) k in
     let files_are : (s.world).files ≡ files = (s.may_be).files files (ap (λ (x : Known). x.files) k) in
     let world_is = world_of s.world held files held_is files_are in
-    let step = fine_item setting s.world item here s.new answer parts.0 (first_starved answer more ne) s.step in
+    let step = fine_item setting s.world item here s.new answer (head_of (λ i. ¬ AsksDeep i) item items none) parts.0 (first_starved answer more ne) s.step in
     let next_is : next ≡ known_by (s.new).held (s.new).files = s.behind ∙ ap (λ (x : Known). known_after x s.new) k in
-    let rest = replied setting items next (s.new).held (s.new).files later more last next_is parts.1 (later_starved answer more ne) r in
+    let rest = replied setting items next (s.new).held (s.new).files later more last next_is parts.1 (later_starved answer more ne) (tail_of (λ i. ¬ AsksDeep i) item items none) r in
     record {
       last = rest.last;
       are = ThenAnswer item items (record { held = held; files = files }) s.new rest.last answer more (subst (λ w. FineItem setting w item s.new answer) world_is step) rest.are;
     }
 
 pub replies_answers : OneAnswers → RepliesAreAnswers
-replies_answers law setting items files answers last said r ne =
-    let got = replied setting items (known_by first_held files) first_held files none_gained answers last refl refl ne r in
+replies_answers law setting items files answers last said r ne none =
+    let got = replied setting items (known_by first_held files) first_held files none_gained answers last refl refl ne none r in
     record {
       last = got.last;
       are = got.are;

@@ -1,33 +1,39 @@
 -- Each command leaves a valid world, changes nothing where it is refused, and tells of failures that were gained.
-use Rattle.std.proofs.Common.{◌≡◌, ℕ, ◌<◌, ◌≤◌, List, [], ◌∷◌, ◌++◌, length, arith, refl, sym, ◌∙◌, ap, subst, map, append-nil, zero, suc, ◌/◌, ◌%◌, ◌==◌, Bool, true, false, if◌then◌else◌, get_or}
+use Rattle.std.proofs.Common.{◌≡◌, ℕ, ◌<◌, ◌≤◌, inl, inr, List, [], ◌∷◌, Ok, arith, refl, sym, ap, subst}
 use Rattle.std.specs.List.{count_by}
-use Rattle.std.specs.Fmt.{decimal, digits, digit_glyph, digits_onto}
-use Rattle.std.proofs.lemmas.Grind.{common_steps}
 use Rattle.std.specs.Str.{bytes_eq}
 use Rattle.mt_text_spec.specs.Words.{IsName}
+use Rattle.mt_text_spec.specs.Queries.{Query}
+use Rattle.mt_query_spec.specs.Contents.{patterns}
 use Rattle.mt_vertical.specs.TextLaws.{ValidTexts}
 use Rattle.mt_registry.specs.RegistryLaws.{ValidRegistries}
 use Rattle.mt_script_spec.specs.Commands as command
 use Rattle.mt_script_spec.specs.Commands.{Ask, Command}
-use Rattle.mt_session_spec.specs.World.{World, Held, Group, ValidHeld, Holds, with_text}
+use Rattle.mt_script_spec.specs.Script as script
+use Rattle.mt_session_spec.specs.World.{World, Held, ValidHeld, Holds, with_text, without_text}
 use Rattle.mt_session_spec.specs.Settings.{Setting, mapper_names}
+use Rattle.mt_session_spec.specs.Scenes.{Scene, scene_of}
+use Rattle.mt_session_spec.specs.Patterns.{IsAmong, IsDeep}
+use Rattle.mt_session_spec.specs.Asking.{Reads, ExceptsQuery, Deep, Refused as RefusedPattern}
 use Rattle.mt_session_spec.specs.Gains.{Gained, none_gained}
-use Rattle.mt_session_spec.specs.Refusals.{failure_line, no_memory_line, ok_line}
+use Rattle.mt_session_spec.specs.Refusals.{failure_line, no_memory_line, BadPattern}
 use Rattle.mt_session_spec.specs.Checks.{NoneStands}
 use Rattle.mt_session_spec.specs.Meaning.{Meaning, Question, LoadsNone, LoadsBehind, Exception, Starved, Blocked, ExceptsQuestion, QuestionStarved, QuestionExcepted, asking, unbuilt}
 use Rattle.mt_session_spec.specs.Registering.{registering, registry_front, with_registry}
 use Rattle.mt_session_spec.specs.Adding.{texting, adding, AddsText, text_checks, name_checks}
 use Rattle.mt_session_spec.specs.Files.{IsFile}
-use Rattle.mt_session_spec.specs.Listing.{listing, group_line, group_lines}
+use Rattle.mt_session_spec.specs.Listing.{listing}
 use Rattle.mt_session_spec.specs.Quitting.{quitting}
+use Rattle.mt_session_spec.specs.Removing.{removing}
+use Rattle.mt_session_spec.specs.Replies.{AsksDeep}
 use Rattle.mt_session_spec.specs.Meanings.{meaning, question}
 use Rattle.mt_session_spec.specs.Answers.{Answer, Refused, Lines, Last}
 use Rattle.mt_session_spec.specs.Steps.{IsSaid}
 use Rattle.mt_session_spec.specs.Laws.{told_failures}
 use Rattle.mt_session_laws.specs.Lawful.{KeepsValid, IsFair, TellsGained}
-use Rattle.mt_session_laws.proofs.Worlds.{text_valid, registry_valid}
+use Rattle.mt_session_laws.proofs.Worlds.{text_valid, registry_valid, without_valid}
 use Rattle.mt_session_laws.proofs.Said.{text_name, add_name}
-use Rattle.mt_session_laws.proofs.Failures.{no_want, begins_else, none_told, one_untold, one_told}
+use Rattle.mt_session_laws.proofs.Failures.{no_failure, no_want, no_refused, none_told, one_untold, one_told}
 
 -- what the readers' laws say
 pub record Validities : Type 0 where
@@ -103,7 +109,7 @@ keeps_valid laws setting world (command.Registry file) valid said = registry_kee
 keeps_valid laws setting world (command.Text name body) valid said = texting_keeps laws world name body valid (text_name name body said)
 keeps_valid laws setting world (command.Add name file) valid said = adding_keeps laws world name file valid (add_name name file said)
 keeps_valid laws setting world (command.Generate name seed tokens) valid said = unbuilt_keeps world valid
-keeps_valid laws setting world (command.Asks ask) valid said = asking_keeps (question setting world.held ask) world valid
+keeps_valid laws setting world (command.Asks ask) valid said = asking_keeps (question (scene_of setting world.held) ask) world valid
 keeps_valid laws setting world (command.Grammar file) valid said = unbuilt_keeps world valid
 keeps_valid laws setting world (command.Rules body) valid said = unbuilt_keeps world valid
 keeps_valid laws setting world (command.Merge first last) valid said = unbuilt_keeps world valid
@@ -114,7 +120,10 @@ keeps_valid laws setting world (command.Save name) valid said = unbuilt_keeps wo
 keeps_valid laws setting world (command.Load name) valid said = unbuilt_keeps world valid
 keeps_valid laws setting world command.Quit valid said =
     record { accepted = λ none new answer a. same_valid world.held new.held (ap (λ (w : World). w.held) a.same) valid; excepted = plain_keeps world LoadsNone valid }
-keeps_valid laws setting world (command.Remove name) valid said = unbuilt_keeps world valid
+keeps_valid laws setting world (command.Remove name) valid said = record {
+  accepted = λ none new answer a. same_valid (without_text world.held name) new.held (ap (λ (w : World). w.held) a.changed) (without_valid world.held name valid);
+  excepted = plain_keeps world LoadsNone valid;
+}
 keeps_valid laws setting world (command.Subcorpus name cql) valid said = unbuilt_keeps world valid
 keeps_valid laws setting world (command.Subcount name cql) valid said = unbuilt_keeps world valid
 keeps_valid laws setting world (command.Keywords name attr rarity most) valid said = unbuilt_keeps world valid
@@ -122,11 +131,12 @@ keeps_valid laws setting world (command.Partner name kind) valid said = unbuilt_
 
 -- ## Refusals
 
-plain_fair : (meant : Meaning) (world : World) (Loads : List ℕ → Type 0) → meant.Excepts ≡ Exception world Loads → ((new : World) (line : List ℕ) → meant.Accepts new (Refused line) → ⊥) → IsFair meant world
-plain_fair meant world Loads e accepted = record {
+plain_fair : (meant : Meaning) (world : World) (Loads : List ℕ → Type 0) (Nests : Type 0) → meant.Excepts ≡ Exception world Loads → ((new : World) (line : List ℕ) → meant.Accepts new (Refused line) → ⊥) →
+    IsFair meant world Nests
+plain_fair meant world Loads Nests e accepted = record {
   accepted = accepted;
   kept = λ gained new answer x. exception_same world Loads gained new answer (rw e at x);
-  starved = λ new answer x. exception_starved world Loads new answer (rw e at x);
+  starved = λ none new answer x. exception_starved world Loads new answer (rw e at x);
 }
 
 no_lines : (line : List ℕ) (lines : List (List ℕ)) → Refused line ≡ Lines lines → ⊥
@@ -135,47 +145,58 @@ no_lines line lines e = cc
 no_last : (line other : List ℕ) → Refused line ≡ Last other → ⊥
 no_last line other e = cc
 
-unbuilt_fair : (world : World) → IsFair (unbuilt world) world
-unbuilt_fair world = plain_fair (unbuilt world) world LoadsNone refl (λ new line a. a)
+unbuilt_fair : (world : World) (Nests : Type 0) → IsFair (unbuilt world) world Nests
+unbuilt_fair world Nests = plain_fair (unbuilt world) world LoadsNone Nests refl (λ new line a. a)
 
-unbuilt_question_excepts : (setting : Setting) (held : Held) (ask : Ask) (gained : Gained) (line : List ℕ) → (question setting held ask).Excepts gained line → ⊥
-unbuilt_question_excepts setting held (command.Count cql) gained line e = e
-unbuilt_question_excepts setting held (command.Query cql) gained line e = e
-unbuilt_question_excepts setting held (command.Freq attr offset cql) gained line e = e
-unbuilt_question_excepts setting held (command.Colloc attr first last least cql) gained line e = e
-unbuilt_question_excepts setting held (command.Sketch least most lemma) gained line e = e
-unbuilt_question_excepts setting held (command.Thes most lemma) gained line e = e
+none_among : (text : List ℕ) → IsAmong [] text → ⊥
+none_among text (inl there) = let low : there.0 < 0 = there.1 in omega arith
+none_among text (inr there) = let low : there.0 < 0 = there.1 in omega arith
 
-ask_starved : (asked : Question) (world : World) → ((gained : Gained) (line : List ℕ) → asked.Excepts gained line → ⊥) → (new : World) (answer : Answer) → ExceptsQuestion asked world none_gained new answer → answer ≡ Refused no_memory_line
+query_starved : (scene : Scene) (cql line : List ℕ) → ((query : Query) (k : ℕ) → Reads scene cql (Ok query) → IsDeep (patterns query) k → ⊥) → ExceptsQuery scene cql none_gained line → ⊥
+query_starved scene cql line none (Deep query k read deep) = none query k read deep
+query_starved scene cql line none (RefusedPattern query k read refused) = none_among refused.text refused.among
+
+-- where nothing was gained and no pattern nests too deep, a question has no exception but want of memory
+question_starved : (scene : Scene) (ask : Ask) → (AsksDeep (script.Given (command.Asks ask)) → ⊥) → (line : List ℕ) → (question scene ask).Excepts none_gained line → ⊥
+question_starved scene (command.Count cql) none line e =
+    query_starved scene cql line (λ query k read deep. none (record { cql = cql; asks = refl; registry = scene.registry; query = query; read = read; number = k; deep = deep })) e
+question_starved scene (command.Query cql) none line e =
+    query_starved scene cql line (λ query k read deep. none (record { cql = cql; asks = refl; registry = scene.registry; query = query; read = read; number = k; deep = deep })) e
+question_starved scene (command.Freq attr offset cql) none line e = e
+question_starved scene (command.Colloc attr first last least cql) none line e = e
+question_starved scene (command.Sketch least most lemma) none line e = e
+question_starved scene (command.Thes most lemma) none line e = e
+
+ask_starved : (asked : Question) (world : World) → ((line : List ℕ) → asked.Excepts none_gained line → ⊥) → (new : World) (answer : Answer) → ExceptsQuestion asked world none_gained new answer → answer ≡ Refused no_memory_line
 ask_starved asked world none new answer QuestionStarved = refl
-ask_starved asked world none new answer (QuestionExcepted line e) = absurd (none none_gained line e)
+ask_starved asked world none new answer (QuestionExcepted line e) = absurd (none line e)
 
-asking_fair : (asked : Question) (world : World) → ((gained : Gained) (line : List ℕ) → asked.Excepts gained line → ⊥) → IsFair (asking asked world) world
-asking_fair asked world none = record {
+asking_fair : (scene : Scene) (ask : Ask) (world : World) → IsFair (asking (question scene ask) world) world (AsksDeep (script.Given (command.Asks ask)))
+asking_fair scene ask world = record {
   accepted = λ new line a. no_lines line a.lines a.says;
-  kept = λ gained new answer e. ap (λ (w : World). w.held) (question_same asked world gained new answer e);
-  starved = ask_starved asked world none;
+  kept = λ gained new answer e. ap (λ (w : World). w.held) (question_same (question scene ask) world gained new answer e);
+  starved = λ none. ask_starved (question scene ask) world (question_starved scene ask none);
 }
 
-pub is_fair : (setting : Setting) (world : World) (given : Command) → IsFair (meaning setting world given) world
-is_fair setting world (command.Registry file) = plain_fair (registering setting world file) world (LoadsBehind (registry_front world) file) refl (λ new line a. no_lines line _ a.says)
-is_fair setting world (command.Text name body) = plain_fair (texting world name body) world LoadsNone refl (λ new line a. no_lines line _ a.says)
-is_fair setting world (command.Add name file) = plain_fair (adding world name file) world (LoadsBehind (name_checks world.held name) file) refl (λ new line a. no_lines line _ a.says)
-is_fair setting world (command.Generate name seed tokens) = unbuilt_fair world
-is_fair setting world (command.Asks ask) = asking_fair (question setting world.held ask) world (unbuilt_question_excepts setting world.held ask)
-is_fair setting world (command.Grammar file) = unbuilt_fair world
-is_fair setting world (command.Rules body) = unbuilt_fair world
-is_fair setting world (command.Merge first last) = unbuilt_fair world
-is_fair setting world (command.Batch asked merge) = unbuilt_fair world
-is_fair setting world command.Segments = plain_fair (listing world) world LoadsNone refl (λ new line a. no_lines line _ a.says)
-is_fair setting world (command.Save name) = unbuilt_fair world
-is_fair setting world (command.Load name) = unbuilt_fair world
-is_fair setting world command.Quit = plain_fair (quitting world) world LoadsNone refl (λ new line a. no_last line _ a.says)
-is_fair setting world (command.Remove name) = unbuilt_fair world
-is_fair setting world (command.Subcorpus name cql) = unbuilt_fair world
-is_fair setting world (command.Subcount name cql) = unbuilt_fair world
-is_fair setting world (command.Keywords name attr rarity most) = unbuilt_fair world
-is_fair setting world (command.Partner name kind) = unbuilt_fair world
+pub is_fair : (setting : Setting) (world : World) (given : Command) → IsFair (meaning setting world given) world (AsksDeep (script.Given given))
+is_fair setting world (command.Registry file) = plain_fair (registering setting world file) world (LoadsBehind (registry_front world) file) (AsksDeep (script.Given (command.Registry file))) refl (λ new line a. no_lines line _ a.says)
+is_fair setting world (command.Text name body) = plain_fair (texting world name body) world LoadsNone (AsksDeep (script.Given (command.Text name body))) refl (λ new line a. no_lines line _ a.says)
+is_fair setting world (command.Add name file) = plain_fair (adding world name file) world (LoadsBehind (name_checks world.held name) file) (AsksDeep (script.Given (command.Add name file))) refl (λ new line a. no_lines line _ a.says)
+is_fair setting world (command.Generate name seed tokens) = unbuilt_fair world (AsksDeep (script.Given (command.Generate name seed tokens)))
+is_fair setting world (command.Asks ask) = asking_fair (scene_of setting world.held) ask world
+is_fair setting world (command.Grammar file) = unbuilt_fair world (AsksDeep (script.Given (command.Grammar file)))
+is_fair setting world (command.Rules body) = unbuilt_fair world (AsksDeep (script.Given (command.Rules body)))
+is_fair setting world (command.Merge first last) = unbuilt_fair world (AsksDeep (script.Given (command.Merge first last)))
+is_fair setting world (command.Batch asked merge) = unbuilt_fair world (AsksDeep (script.Given (command.Batch asked merge)))
+is_fair setting world command.Segments = plain_fair (listing world) world LoadsNone (AsksDeep (script.Given command.Segments)) refl (λ new line a. no_lines line _ a.says)
+is_fair setting world (command.Save name) = unbuilt_fair world (AsksDeep (script.Given (command.Save name)))
+is_fair setting world (command.Load name) = unbuilt_fair world (AsksDeep (script.Given (command.Load name)))
+is_fair setting world command.Quit = plain_fair (quitting world) world LoadsNone (AsksDeep (script.Given command.Quit)) refl (λ new line a. no_last line _ a.says)
+is_fair setting world (command.Remove name) = plain_fair (removing world name) world LoadsNone (AsksDeep (script.Given (command.Remove name))) refl (λ new line a. no_lines line _ a.says)
+is_fair setting world (command.Subcorpus name cql) = unbuilt_fair world (AsksDeep (script.Given (command.Subcorpus name cql)))
+is_fair setting world (command.Subcount name cql) = unbuilt_fair world (AsksDeep (script.Given (command.Subcount name cql)))
+is_fair setting world (command.Keywords name attr rarity most) = unbuilt_fair world (AsksDeep (script.Given (command.Keywords name attr rarity most)))
+is_fair setting world (command.Partner name kind) = unbuilt_fair world (AsksDeep (script.Given (command.Partner name kind)))
 
 -- ## Failures that are told
 
@@ -186,81 +207,41 @@ plain_tells meant world Loads e accepted = record { accepted = accepted; excepte
 unbuilt_tells : (world : World) → TellsGained (unbuilt world)
 unbuilt_tells world = plain_tells (unbuilt world) world LoadsNone refl (λ new answer file a. absurd a)
 
--- an answer of one line that begins with another byte
-one_line_tells : (answer : Answer) (first : ℕ) (rest file : List ℕ) → 33 < first → answer ≡ Lines ((first ∷ rest) ∷ []) → told_failures file (answer ∷ []) ≡ 0
-one_line_tells answer first rest file high e = ap (λ (a : Answer). told_failures file (a ∷ [])) e ∙ one_untold (first ∷ rest) file (begins_else first rest file high)
+query_untold : (scene : Scene) (cql line file : List ℕ) (gained : Gained) → ExceptsQuery scene cql gained line → line ≡ failure_line file → ⊥
+query_untold scene cql line file gained (Deep query k read deep) e = no_failure (BadPattern k) file e
+query_untold scene cql line file gained (RefusedPattern query k read refused) e = no_refused k file e
 
-question_tells : (setting : Setting) (held : Held) (ask : Ask) (lines : List (List ℕ)) (file : List ℕ) → (question setting held ask).Answers lines → told_failures file (Lines lines ∷ []) ≡ 0
-question_tells setting held (command.Count cql) lines file a = one_line_tells (Lines lines) 61 _ file (omega arith) (ap Lines a.says)
-question_tells setting held (command.Query cql) lines file a = absurd a
-question_tells setting held (command.Freq attr offset cql) lines file a = absurd a
-question_tells setting held (command.Colloc attr first last least cql) lines file a = absurd a
-question_tells setting held (command.Sketch least most lemma) lines file a = absurd a
-question_tells setting held (command.Thes most lemma) lines file a = absurd a
+question_untold : (scene : Scene) (ask : Ask) (gained : Gained) (line file : List ℕ) → (question scene ask).Excepts gained line → line ≡ failure_line file → ⊥
+question_untold scene (command.Count cql) gained line file x e = query_untold scene cql line file gained x e
+question_untold scene (command.Query cql) gained line file x e = query_untold scene cql line file gained x e
+question_untold scene (command.Freq attr offset cql) gained line file x e = x
+question_untold scene (command.Colloc attr first last least cql) gained line file x e = x
+question_untold scene (command.Sketch least most lemma) gained line file x e = x
+question_untold scene (command.Thes most lemma) gained line file x e = x
 
-ask_told : (asked : Question) (world : World) → ((gained : Gained) (line : List ℕ) → asked.Excepts gained line → ⊥) → (gained : Gained) (new : World) (answer : Answer) (file : List ℕ) →
-    ExceptsQuestion asked world gained new answer → told_failures file (answer ∷ []) ≤ count_by (λ name. bytes_eq name file) gained.failed
-ask_told asked world none gained new answer file QuestionStarved = let one = one_untold no_memory_line file (no_want file) in omega (arith, one)
-ask_told asked world none gained new answer file (QuestionExcepted line e) = absurd (none gained line e)
+ask_told : (scene : Scene) (ask : Ask) (world : World) (gained : Gained) (new : World) (answer : Answer) (file : List ℕ) →
+    ExceptsQuestion (question scene ask) world gained new answer → told_failures file (answer ∷ []) ≤ count_by (λ name. bytes_eq name file) gained.failed
+ask_told scene ask world gained new answer file QuestionStarved = let one = one_untold no_memory_line file (no_want file) in omega (arith, one)
+ask_told scene ask world gained new answer file (QuestionExcepted line e) = let one = one_untold line file (question_untold scene ask gained line file e) in omega (arith, one)
 
-asking_tells : (setting : Setting) (world : World) (ask : Ask) → TellsGained (asking (question setting world.held ask) world)
-asking_tells setting world ask = record {
-  accepted = λ new answer file a. ap (λ (x : Answer). told_failures file (x ∷ [])) a.says ∙ question_tells setting world.held ask a.lines file a.answered;
-  excepted = ask_told (question setting world.held ask) world (unbuilt_question_excepts setting world.held ask);
-}
-
--- a line of a group begins with a digit
-abbrev IsHigh : List ℕ → Type 0
-IsHigh [] = Unit {0}
-IsHigh (b ∷ bytes) = 33 < b
-
-glyph_high : (d : ℕ) → 33 < digit_glyph false d
-glyph_high d = grind (arith, common_steps)
-
-digits_high : (k n : ℕ) (bytes : List ℕ) → IsHigh bytes → IsHigh (digits_onto k 10 false n bytes)
-digits_high zero n bytes h = h
-digits_high (suc k) n bytes h = by (n / 10 == 0) (digits_high k (n / 10) (digit_glyph false (n % 10) ∷ bytes) (glyph_high (n % 10)))
-  where
-    by : (b : Bool) → IsHigh (digits_onto k 10 false (n / 10) (digit_glyph false (n % 10) ∷ bytes)) →
-        IsHigh (if b then digit_glyph false (n % 10) ∷ bytes else digits_onto k 10 false (n / 10) (digit_glyph false (n % 10) ∷ bytes))
-    by true more = glyph_high (n % 10)
-    by false more = more
-
-no_blank : (a b : ℕ) → a ≡ 32 → b ≡ 33 → a ≡ b → ⊥
-no_blank a b e f g = omega arith
-
-high_line : (bytes rest file : List ℕ) → IsHigh bytes → bytes ++ 32 ∷ rest ≡ failure_line file → ⊥
-high_line [] rest file h e = no_blank 32 33 refl refl (ap (λ (line : List ℕ). get_or line 0 0) e)
-high_line (b ∷ bytes) rest file h e = begins_else b (bytes ++ 32 ∷ rest) file h e
-
-digit_line : (number : ℕ) (rest file : List ℕ) → decimal number ++ 32 ∷ rest ≡ failure_line file → ⊥
-unfolding digits
-digit_line number rest file e = high_line (decimal number) rest file (digits_high 64 number [] tt) e
-
-groups_tell : (groups : List Group) (file : List ℕ) → count_by (λ l. bytes_eq l (failure_line file)) (map group_line groups) ≡ 0
-groups_tell [] file = refl
-groups_tell (group ∷ groups) file = none_told (group_line group) file (map group_line groups) (digit_line _ _ file) (groups_tell groups file)
-
-listing_told : (groups : List Group) (file : List ℕ) → told_failures file (Lines (group_lines groups) ∷ []) ≡ 0
-listing_told groups file =
-    let all = none_told _ file (map group_line groups) (begins_else 61 (32 ∷ decimal (length groups)) file (omega arith)) (groups_tell groups file) in
-    ap (λ ls. count_by (λ l. bytes_eq l (failure_line file)) ls) (append-nil (group_lines groups)) ∙ all
+asking_tells : (scene : Scene) (world : World) (ask : Ask) → TellsGained (asking (question scene ask) world)
+asking_tells scene world ask = record { accepted = λ new answer file a. none_told answer a.lines file a.says; excepted = ask_told scene ask world }
 
 pub tells_gained : (setting : Setting) (world : World) (given : Command) → TellsGained (meaning setting world given)
-tells_gained setting world (command.Registry file) = plain_tells (registering setting world file) world (LoadsBehind (registry_front world) file) refl (λ new answer other a. one_line_tells answer 111 _ other (omega arith) a.says)
-tells_gained setting world (command.Text name body) = plain_tells (texting world name body) world LoadsNone refl (λ new answer other a. one_line_tells answer 111 _ other (omega arith) a.says)
-tells_gained setting world (command.Add name file) = plain_tells (adding world name file) world (LoadsBehind (name_checks world.held name) file) refl (λ new answer other a. one_line_tells answer 111 _ other (omega arith) a.says)
+tells_gained setting world (command.Registry file) = plain_tells (registering setting world file) world (LoadsBehind (registry_front world) file) refl (λ new answer other a. none_told answer _ other a.says)
+tells_gained setting world (command.Text name body) = plain_tells (texting world name body) world LoadsNone refl (λ new answer other a. none_told answer _ other a.says)
+tells_gained setting world (command.Add name file) = plain_tells (adding world name file) world (LoadsBehind (name_checks world.held name) file) refl (λ new answer other a. none_told answer _ other a.says)
 tells_gained setting world (command.Generate name seed tokens) = unbuilt_tells world
-tells_gained setting world (command.Asks ask) = asking_tells setting world ask
+tells_gained setting world (command.Asks ask) = asking_tells (scene_of setting world.held) world ask
 tells_gained setting world (command.Grammar file) = unbuilt_tells world
 tells_gained setting world (command.Rules body) = unbuilt_tells world
 tells_gained setting world (command.Merge first last) = unbuilt_tells world
 tells_gained setting world (command.Batch asked merge) = unbuilt_tells world
-tells_gained setting world command.Segments = plain_tells (listing world) world LoadsNone refl (λ new answer file a. ap (λ (x : Answer). told_failures file (x ∷ [])) a.says ∙ listing_told world.held.groups file)
+tells_gained setting world command.Segments = plain_tells (listing world) world LoadsNone refl (λ new answer file a. none_told answer _ file a.says)
 tells_gained setting world (command.Save name) = unbuilt_tells world
 tells_gained setting world (command.Load name) = unbuilt_tells world
-tells_gained setting world command.Quit = plain_tells (quitting world) world LoadsNone refl (λ new answer file a. ap (λ (x : Answer). told_failures file (x ∷ [])) a.says ∙ one_untold ok_line file (begins_else 111 (107 ∷ []) file (omega arith)))
-tells_gained setting world (command.Remove name) = unbuilt_tells world
+tells_gained setting world command.Quit = plain_tells (quitting world) world LoadsNone refl (λ new answer file a. ap (λ (x : Answer). told_failures file (x ∷ [])) a.says)
+tells_gained setting world (command.Remove name) = plain_tells (removing world name) world LoadsNone refl (λ new answer file a. none_told answer _ file a.says)
 tells_gained setting world (command.Subcorpus name cql) = unbuilt_tells world
 tells_gained setting world (command.Subcount name cql) = unbuilt_tells world
 tells_gained setting world (command.Keywords name attr rarity most) = unbuilt_tells world

@@ -4,9 +4,9 @@ pub mod Texts
 pub mod Registries
 pub mod Standard
 pub mod Worlds
-pub mod Literals
 pub mod Said
 pub mod Failures
+pub mod Refusals
 pub mod Somes
 pub mod Ones
 pub mod Keeps

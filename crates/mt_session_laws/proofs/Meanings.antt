@@ -3,6 +3,7 @@ use Rattle.std.proofs.Common.{◌≡◌, ℕ, ◌≤◌, inl, inr, List, [], ◌
 use Rattle.std.specs.List.{count_by}
 use Rattle.std.specs.Str.{bytes_eq}
 use Rattle.mt_script_spec.specs.Commands.{Command}
+use Rattle.mt_script_spec.specs.Script.{Given}
 use Rattle.mt_session_spec.specs.World.{World, ValidHeld}
 use Rattle.mt_session_spec.specs.Settings.{Setting}
 use Rattle.mt_session_spec.specs.Gains.{Gained, none_gained}
@@ -11,11 +12,12 @@ use Rattle.mt_session_spec.specs.Meaning.{Meaning}
 use Rattle.mt_session_spec.specs.Meanings.{meaning}
 use Rattle.mt_session_spec.specs.Answers.{Answer, Refused}
 use Rattle.mt_session_spec.specs.Steps.{FineBy, Declined, Accepted, StepBy, Meant, Excepted, Fine, Step}
+use Rattle.mt_session_spec.specs.Replies.{AsksDeep}
 use Rattle.mt_session_spec.specs.Laws.{SomeMeaning, OneMeaning, StepsKeepValid, RefusedKeep, told_failures}
 use Rattle.mt_session_laws.specs.Lawful.{HasSome, HasOne, KeepsValid, IsFair, TellsGained}
 use Rattle.mt_session_laws.proofs.Checks.{first_or_none, one_first, not_both}
 use Rattle.mt_session_laws.proofs.Failures.{one_untold, no_failure}
-use Rattle.mt_session_laws.proofs.Somes.{has_some}
+use Rattle.mt_session_laws.proofs.Somes.{QueryReadings, has_some}
 use Rattle.mt_session_laws.proofs.Ones.{Readings, has_one}
 use Rattle.mt_session_laws.proofs.Keeps.{Validities, keeps_valid, is_fair, tells_gained}
 
@@ -25,8 +27,8 @@ some_fine meant world some k = first_or_none meant.checks (λ d. elim d [
   | inr none ↦ some none (λ new answer a. k new answer (Accepted new answer none a))
 ])
 
-pub some_meaning : SomeMeaning
-some_meaning setting world given valid said k = some_fine (meaning setting world given) world (has_some setting world given) k
+pub some_meaning : QueryReadings → SomeMeaning
+some_meaning laws setting world given valid said k = some_fine (meaning setting world given) world (has_some laws setting world given) k
 
 one_fine : (meant : Meaning) (world : World) → HasOne meant → (new other : World) (answer another : Answer) → FineBy meant world new answer → FineBy meant world other another → (new ≡ other) × (answer ≡ another)
 one_fine meant world one new other answer another (Declined a f) (Declined b g) = (refl, ap (λ r. Refused (refusal_line r)) (one_first meant.checks one.checks a b f g))
@@ -45,22 +47,22 @@ keeps meant world gained valid k new answer (Excepted n a e) = k.excepted gained
 pub steps_keep : Validities → StepsKeepValid
 steps_keep laws setting world given gained valid said new answer s = keeps (meaning setting world given) world gained valid (keeps_valid laws setting world given valid said) new answer s
 
-fair_keeps : (meant : Meaning) (world : World) (gained : Gained) → IsFair meant world → (new : World) (answer : Answer) (line : List ℕ) → answer ≡ Refused line → StepBy meant world gained new answer → new.held ≡ world.held
-fair_keeps meant world gained fair new answer line e (Meant n a (Declined refusal first)) = refl
-fair_keeps meant world gained fair new answer line e (Meant n a (Accepted m b none c)) = absurd (fair.accepted m line (rw e at c))
-fair_keeps meant world gained fair new answer line e (Excepted n a x) = fair.kept gained n a x
+fair_keeps : (meant : Meaning) (world : World) (Nests : Type 0) (gained : Gained) → IsFair meant world Nests → (new : World) (answer : Answer) (line : List ℕ) → answer ≡ Refused line → StepBy meant world gained new answer → new.held ≡ world.held
+fair_keeps meant world Nests gained fair new answer line e (Meant n a (Declined refusal first)) = refl
+fair_keeps meant world Nests gained fair new answer line e (Meant n a (Accepted m b none c)) = absurd (fair.accepted m line (rw e at c))
+fair_keeps meant world Nests gained fair new answer line e (Excepted n a x) = fair.kept gained n a x
 
 pub refused_keep : RefusedKeep
-refused_keep setting world given gained valid said new line s = fair_keeps (meaning setting world given) world gained (is_fair setting world given) new (Refused line) line refl s
+refused_keep setting world given gained valid said new line s = fair_keeps (meaning setting world given) world (AsksDeep (Given given)) gained (is_fair setting world given) new (Refused line) line refl s
 
--- a step in which nothing was gained and memory lasted
-starved_not : (meant : Meaning) (world : World) → IsFair meant world → (gained : Gained) (new : World) (answer : Answer) → gained ≡ none_gained → (answer ≡ Refused no_memory_line → ⊥) → StepBy meant world gained new answer → FineBy meant world new answer
-starved_not meant world fair gained new answer e ne (Meant n a f) = f
-starved_not meant world fair gained new answer e ne (Excepted n a x) = absurd (ne (fair.starved n a (rw e at x)))
+-- a step in which nothing was gained, memory lasted and no pattern nests too deep
+starved_not : (meant : Meaning) (world : World) (Nests : Type 0) → IsFair meant world Nests → (Nests → ⊥) → (gained : Gained) (new : World) (answer : Answer) → gained ≡ none_gained → (answer ≡ Refused no_memory_line → ⊥) → StepBy meant world gained new answer → FineBy meant world new answer
+starved_not meant world Nests fair none gained new answer e ne (Meant n a f) = f
+starved_not meant world Nests fair none gained new answer e ne (Excepted n a x) = absurd (ne (fair.starved none n a (rw e at x)))
 
-pub fine_step : (setting : Setting) (world : World) (given : Command) (gained : Gained) (new : World) (answer : Answer) → gained ≡ none_gained → (answer ≡ Refused no_memory_line → ⊥) → Step setting world given gained new answer →
-    Fine setting world given new answer
-fine_step setting world given gained new answer e ne s = starved_not (meaning setting world given) world (is_fair setting world given) gained new answer e ne s
+pub fine_step : (setting : Setting) (world : World) (given : Command) (gained : Gained) (new : World) (answer : Answer) → (AsksDeep (Given given) → ⊥) → gained ≡ none_gained → (answer ≡ Refused no_memory_line → ⊥) →
+    Step setting world given gained new answer → Fine setting world given new answer
+fine_step setting world given gained new answer none e ne s = starved_not (meaning setting world given) world (AsksDeep (Given given)) (is_fair setting world given) none gained new answer e ne s
 
 -- the failures that a step tells
 step_told : (meant : Meaning) (world : World) (gained : Gained) → TellsGained meant → (new : World) (answer : Answer) (file : List ℕ) → StepBy meant world gained new answer →

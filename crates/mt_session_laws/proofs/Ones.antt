@@ -1,30 +1,39 @@
 -- No command has two meanings.
-use Rattle.std.proofs.Common.{◌≡◌, ℕ, ◌<◌, inl, inr, List, [], ◌∷◌, ◌++◌, length, Some, arith, refl, sym, ◌∙◌, ap, codes}
-use Rattle.std.specs.Prelude.{slice_get}
+use Rattle.std.proofs.Common.{◌≡◌, ℕ, suc, List, [], ◌∷◌, ◌++◌, length, Some, Ok, Err, arith, refl, sym, ◌∙◌, ap, subst, codes}
+use Rattle.std.specs.List.{All}
 use Rattle.std.specs.Fmt.{decimal}
-use Rattle.std.proofs.lemmas.Bool.{cases_lt}
-use Rattle.std.proofs.lemmas.Option.{get_or_from_slice_get, slice_get_within}
-use Rattle.mt_text_spec.specs.Registries.{Registry, ValidRegistry, attr_names, column_of, AreDistinct}
-use Rattle.mt_text_spec.specs.Texts.{Text}
+use Rattle.mt_text_spec.specs.Registries.{Registry, ValidRegistry}
+use Rattle.mt_text_spec.specs.Texts.{Text, Span}
+use Rattle.mt_text_spec.specs.Queries.{Query}
+use Rattle.mt_query_spec.specs.Verdicts as verdict
+use Rattle.mt_query_spec.specs.Contents.{patterns}
+use Rattle.mt_match_spec.specs.Kept.{Spans}
+use Rattle.mt_match_laws.specs.Laws.{SpansAreOne}
+use Rattle.mt_report_spec.specs.Lines.{query_lines}
 use Rattle.mt_shelf_spec.specs.Files.{Files}
 use Rattle.mt_vertical.specs.TextLaws as text
 use Rattle.mt_registry.specs.RegistryLaws as registry
 use Rattle.mt_script_spec.specs.Commands as command
 use Rattle.mt_script_spec.specs.Commands.{Ask, Command}
 use Rattle.mt_session_spec.specs.World.{World, Held, ValidHeld, with_text, corpus_of}
+use Rattle.mt_session_spec.specs.Scenes.{Scene, scene_of}
+use Rattle.mt_session_spec.specs.Patterns.{IsWhole, IsFirstBad}
 use Rattle.mt_session_spec.specs.Settings.{Setting, mapper_names}
-use Rattle.mt_session_spec.specs.Refusals.{NameTaken, NoSuchFile, FileTooLong, RegistryLate, BadCommand, CorpusFull, BadVertical, BadRegistry, UnknownName}
+use Rattle.mt_session_spec.specs.Refusals.{NameTaken, NoSuchFile, FileTooLong, RegistryLate, BadCommand, CorpusFull, BadVertical, BadRegistry, BadQuery, UnknownName, BadPattern, NoSuchText}
 use Rattle.mt_session_spec.specs.Checks.{IsSingle, AreSingle}
 use Rattle.mt_session_spec.specs.Files.{IsFile, file_checks}
 use Rattle.mt_session_spec.specs.Meaning.{asking, unbuilt, unbuilt_question, Question}
 use Rattle.mt_session_spec.specs.Registering.{registering, with_registry, SetsRegistry, IsNoRegistry, BadLine as BadRegistryLine, Baseless}
 use Rattle.mt_session_spec.specs.Adding.{texting, adding, AddsText, IsNoText, BadLine, text_checks}
-use Rattle.mt_session_spec.specs.Counting.{Counts, occurrences, IsUndeclared, Undeclared}
+use Rattle.mt_session_spec.specs.Asking.{Reads, IsNoQuery, Great, Faulty, Undeclared, HasBadPattern, Bad, HasTooManyRows, Many, query_checks, name_at}
+use Rattle.mt_session_spec.specs.Counting.{Counts, number_line}
+use Rattle.mt_session_spec.specs.Querying.{ListsSpans}
+use Rattle.mt_session_spec.specs.Removing.{removing, RemovesText}
 use Rattle.mt_session_spec.specs.Meanings.{meaning, question}
 use Rattle.mt_session_spec.specs.Answers.{Answer, Lines}
-use Rattle.mt_session_laws.specs.Lawful.{HasOne}
+use Rattle.mt_session_laws.specs.Lawful.{HasOne, OneQuery}
 use Rattle.mt_session_laws.proofs.Checks.{single_when}
-use Rattle.mt_session_laws.proofs.Literals.{one_name, one_value}
+use Rattle.mt_session_laws.proofs.Worlds.{one_named}
 
 -- what the readers' laws say
 pub record Readings : Type 0 where
@@ -34,6 +43,8 @@ pub record Readings : Type 0 where
   pub one_registry : registry.OneRegistry
   pub one_registry_fault : registry.OneFault
   pub apart : registry.AreApart
+  pub one_query : OneQuery
+  pub one_spans : SpansAreOne
 
 -- ## Files
 
@@ -110,29 +121,78 @@ add_one laws world name file valid =
 
 -- ## Questions
 
-one_undeclared : (held : Held) (cql : List ℕ) → IsSingle (IsUndeclared held cql)
-one_undeclared held cql a b (Undeclared name value l n) (Undeclared other another m o) = ap UnknownName (one_name cql name value other another l m)
+same_query : (laws : Readings) (scene : Scene) (cql : List ℕ) (a b : Query) → Reads scene cql (Ok a) → Reads scene cql (Ok b) → a ≡ b
+same_query laws scene cql a b r s = let e = laws.one_query scene.registry 0 cql (Ok a) (Ok b) r s in cc
 
-not_before : (names : List (List ℕ)) (name : List ℕ) (a b : ℕ) → AreDistinct names → slice_get names a ≡ Some name → slice_get names b ≡ Some name → a < b → ⊥
-not_before names name a b distinct e f low =
-    distinct a b name low (slice_get_within names b name f) (get_or_from_slice_get names a name name e ∙ sym (get_or_from_slice_get names b name name f))
+same_refusal : (laws : Readings) (scene : Scene) (cql : List ℕ) (a b : verdict.Refusal) → Reads scene cql (Err a) → Reads scene cql (Err b) → a ≡ b
+same_refusal laws scene cql a b r s = let e = laws.one_query scene.registry 0 cql (Err a) (Err b) r s in cc
 
-number_one : (names : List (List ℕ)) (name : List ℕ) (a b : ℕ) → AreDistinct names → slice_get names a ≡ Some name → slice_get names b ≡ Some name → a ≡ b
-number_one names name a b distinct e f = elim (cases_lt a b) [
-  | inl low ↦ absurd (not_before names name a b distinct e f low)
-  | inr high ↦ elim (cases_lt b a) [
-    | inl low ↦ absurd (not_before names name b a distinct f e low)
-    | inr low ↦ omega arith
-  ]
-]
+great_faulty : (at : ℕ) (cause : verdict.Cause) → verdict.TooLarge ≡ verdict.Syntax at cause → ⊥
+great_faulty at cause e = cc
 
-counts_one : (held : Held) (cql : List ℕ) → ValidRegistry held.registry → (lines others : List (List ℕ)) → Counts held cql lines → Counts held cql others → lines ≡ others
-counts_one held cql valid lines others c d =
-    let name : c.name ≡ d.name = one_name cql c.name c.value d.name d.value c.read d.read in
-    let value : c.value ≡ d.value = one_value cql c.name c.value d.name d.value c.read d.read in
-    let number : c.number ≡ d.number = number_one (attr_names held.registry.attrs) d.name c.number d.number valid.distinct (c.named ∙ ap Some name) d.named in
-    c.says ∙ ap (λ n. (codes "= " ++ decimal (occurrences (corpus_of held.groups) (column_of held.registry.attrs n) c.value)) ∷ []) number
-    ∙ ap (λ v. (codes "= " ++ decimal (occurrences (corpus_of held.groups) (column_of held.registry.attrs d.number) v)) ∷ []) value ∙ sym d.says
+great_unknown : (at : ℕ) → verdict.TooLarge ≡ verdict.Unknown at → ⊥
+great_unknown at e = cc
+
+faulty_unknown : (at place : ℕ) (cause : verdict.Cause) → verdict.Syntax at cause ≡ verdict.Unknown place → ⊥
+faulty_unknown at place cause e = cc
+
+same_fault : (at place : ℕ) (cause other : verdict.Cause) → verdict.Syntax at cause ≡ verdict.Syntax place other → BadQuery at cause ≡ BadQuery place other
+same_fault at place cause other e = cc
+
+same_place : (at place : ℕ) → verdict.Unknown at ≡ verdict.Unknown place → at ≡ place
+same_place at place e = cc
+
+one_no_query : (laws : Readings) (scene : Scene) (cql : List ℕ) → IsSingle (IsNoQuery scene cql)
+one_no_query laws scene cql a b (Great r) (Great s) = refl
+one_no_query laws scene cql a b (Great r) (Faulty at cause s) = absurd (great_faulty at cause (same_refusal laws scene cql _ _ r s))
+one_no_query laws scene cql a b (Great r) (Undeclared at s) = absurd (great_unknown at (same_refusal laws scene cql _ _ r s))
+one_no_query laws scene cql a b (Faulty at cause r) (Great s) = absurd (great_faulty at cause (same_refusal laws scene cql _ _ s r))
+one_no_query laws scene cql a b (Faulty at cause r) (Faulty place other s) = same_fault at place cause other (same_refusal laws scene cql _ _ r s)
+one_no_query laws scene cql a b (Faulty at cause r) (Undeclared place s) = absurd (faulty_unknown at place cause (same_refusal laws scene cql _ _ r s))
+one_no_query laws scene cql a b (Undeclared at r) (Great s) = absurd (great_unknown at (same_refusal laws scene cql _ _ s r))
+one_no_query laws scene cql a b (Undeclared at r) (Faulty place cause s) = absurd (faulty_unknown place at cause (same_refusal laws scene cql _ _ s r))
+one_no_query laws scene cql a b (Undeclared at r) (Undeclared place s) = ap (λ n. UnknownName (name_at cql n)) (same_place at place (same_refusal laws scene cql _ _ r s))
+
+-- the first text that is no pattern of whole values stands at one place
+stops_at_one : (before : List (List ℕ)) (text : List ℕ) (behind others : List (List ℕ)) (other : List ℕ) (more : List (List ℕ)) → before ++ text ∷ behind ≡ others ++ other ∷ more →
+    All IsWhole before → All IsWhole others → (IsWhole text → ⊥) → (IsWhole other → ⊥) → length before ≡ length others
+stops_at_one [] text behind [] other more e p q n m = refl
+stops_at_one [] text behind (x ∷ others) other more e p q n m = let same : x ≡ text = cc in absurd (n (subst IsWhole same (q 0 x (omega arith))))
+stops_at_one (x ∷ before) text behind [] other more e p q n m = let same : x ≡ other = cc in absurd (m (subst IsWhole same (p 0 x (omega arith))))
+stops_at_one (x ∷ before) text behind (y ∷ others) other more e p q n m =
+    let rest : before ++ text ∷ behind ≡ others ++ other ∷ more = cc in
+    let here : All IsWhole before = λ k d low. p (suc k) d (omega arith) in
+    let there : All IsWhole others = λ k d low. q (suc k) d (omega arith) in
+    ap suc (stops_at_one before text behind others other more rest here there n m)
+
+first_bad_one : (texts : List (List ℕ)) (k n : ℕ) → IsFirstBad texts k → IsFirstBad texts n → k ≡ n
+first_bad_one texts k n a b =
+    a.stops.number ∙ ap suc (stops_at_one a.stops.before a.text a.stops.behind b.stops.before b.text b.stops.behind (sym a.stops.split ∙ b.stops.split) a.stops.patterns b.stops.patterns a.none b.none)
+    ∙ sym b.stops.number
+
+one_bad_pattern : (laws : Readings) (scene : Scene) (cql : List ℕ) → IsSingle (HasBadPattern scene cql)
+one_bad_pattern laws scene cql a b (Bad query k r f) (Bad other n s g) =
+    let same = same_query laws scene cql query other r s in
+    ap BadPattern (first_bad_one (patterns other) k n (subst (λ (q : Query). IsFirstBad (patterns q) k) same f) g)
+
+one_too_many : (scene : Scene) (cql : List ℕ) → IsSingle (HasTooManyRows scene cql)
+one_too_many scene cql a b (Many query r o) (Many other s p) = refl
+
+single_query : (laws : Readings) (scene : Scene) (cql : List ℕ) → AreSingle (query_checks scene cql)
+single_query laws scene cql = (one_no_query laws scene cql, (one_bad_pattern laws scene cql, (one_too_many scene cql, tt)))
+
+same_spans : (laws : Readings) (scene : Scene) (cql : List ℕ) (a b : Query) (spans others : List Span) → Reads scene cql (Ok a) → Reads scene cql (Ok b) →
+    Spans scene.images scene.registry scene.corpus a spans → Spans scene.images scene.registry scene.corpus b others → spans ≡ others
+same_spans laws scene cql a b spans others r s p q =
+    laws.one_spans scene.images scene.registry scene.corpus b spans others (subst (λ (x : Query). Spans scene.images scene.registry scene.corpus x spans) (same_query laws scene cql a b r s) p) q
+
+counts_one : (laws : Readings) (scene : Scene) (cql : List ℕ) → (lines others : List (List ℕ)) → Counts scene cql lines → Counts scene cql others → lines ≡ others
+counts_one laws scene cql lines others c d =
+    c.says ∙ ap (λ (spans : List Span). number_line (length spans) ∷ []) (same_spans laws scene cql c.query d.query c.spans d.spans c.read d.read c.are d.are) ∙ sym d.says
+
+queries_one : (laws : Readings) (scene : Scene) (cql : List ℕ) → (lines others : List (List ℕ)) → ListsSpans scene cql lines → ListsSpans scene cql others → lines ≡ others
+queries_one laws scene cql lines others c d =
+    c.says ∙ ap (query_lines scene.images scene.registry scene.corpus) (same_spans laws scene cql c.query d.query c.spans d.spans c.read d.read c.are d.are) ∙ sym d.says
 
 -- a question has one answer at most
 record AsksOne (asked : Question) : Type 0 where
@@ -142,19 +202,30 @@ record AsksOne (asked : Question) : Type 0 where
 unbuilt_asked : AsksOne unbuilt_question
 unbuilt_asked = record { checks = (single_when BadCommand, tt); one = λ lines others a b. absurd a }
 
-question_one : (setting : Setting) (held : Held) (ask : Ask) → ValidRegistry held.registry → AsksOne (question setting held ask)
-question_one setting held (command.Count cql) valid = record { checks = (single_when BadCommand, (one_undeclared held cql, tt)); one = counts_one held cql valid }
-question_one setting held (command.Query cql) valid = unbuilt_asked
-question_one setting held (command.Freq attr offset cql) valid = unbuilt_asked
-question_one setting held (command.Colloc attr first last least cql) valid = unbuilt_asked
-question_one setting held (command.Sketch least most lemma) valid = unbuilt_asked
-question_one setting held (command.Thes most lemma) valid = unbuilt_asked
+question_one : (laws : Readings) (scene : Scene) (ask : Ask) → AsksOne (question scene ask)
+question_one laws scene (command.Count cql) = record { checks = single_query laws scene cql; one = counts_one laws scene cql }
+question_one laws scene (command.Query cql) = record { checks = single_query laws scene cql; one = queries_one laws scene cql }
+question_one laws scene (command.Freq attr offset cql) = unbuilt_asked
+question_one laws scene (command.Colloc attr first last least cql) = unbuilt_asked
+question_one laws scene (command.Sketch least most lemma) = unbuilt_asked
+question_one laws scene (command.Thes most lemma) = unbuilt_asked
 
 ask_one : (asked : Question) (world : World) → AsksOne asked → HasOne (asking asked world)
 ask_one asked world a = record {
   checks = a.checks;
   one = λ new other answer another s t. (s.same ∙ sym t.same, s.says ∙ ap Lines (a.one s.lines t.lines s.answered t.answered) ∙ sym t.says);
 }
+
+-- ## `remove`
+
+removes_one : (world : World) (name : List ℕ) → ValidHeld world.held → (new other : World) (answer another : Answer) → RemovesText world name new answer → RemovesText world name other another →
+    (new ≡ other) × (answer ≡ another)
+removes_one world name valid new other answer another s t =
+    let same = one_named (corpus_of world.held.groups) valid.groups.distinct s.text t.text s.there t.there (s.named ∙ sym t.named) in
+    (s.changed ∙ sym t.changed, s.says ∙ ap (λ (x : Text). Lines ((codes "ok " ++ decimal (length x.tokens)) ∷ [])) same ∙ sym t.says)
+
+remove_one : (world : World) (name : List ℕ) → ValidHeld world.held → HasOne (removing world name)
+remove_one world name valid = record { checks = (single_when (NoSuchText name), tt); one = removes_one world name valid }
 
 -- ## All commands
 
@@ -166,7 +237,7 @@ has_one laws setting world (command.Registry file) valid = registry_one laws set
 has_one laws setting world (command.Text name body) valid = text_one laws world name body valid.registry
 has_one laws setting world (command.Add name file) valid = add_one laws world name file valid.registry
 has_one laws setting world (command.Generate name seed tokens) valid = unbuilt_one world
-has_one laws setting world (command.Asks ask) valid = ask_one (question setting world.held ask) world (question_one setting world.held ask valid.registry)
+has_one laws setting world (command.Asks ask) valid = ask_one (question (scene_of setting world.held) ask) world (question_one laws (scene_of setting world.held) ask)
 has_one laws setting world (command.Grammar file) valid = unbuilt_one world
 has_one laws setting world (command.Rules body) valid = unbuilt_one world
 has_one laws setting world (command.Merge first last) valid = unbuilt_one world
@@ -175,7 +246,7 @@ has_one laws setting world command.Segments valid = record { checks = tt; one = 
 has_one laws setting world (command.Save name) valid = unbuilt_one world
 has_one laws setting world (command.Load name) valid = unbuilt_one world
 has_one laws setting world command.Quit valid = record { checks = tt; one = λ new other answer another s t. (s.same ∙ sym t.same, s.says ∙ sym t.says) }
-has_one laws setting world (command.Remove name) valid = unbuilt_one world
+has_one laws setting world (command.Remove name) valid = remove_one world name valid
 has_one laws setting world (command.Subcorpus name cql) valid = unbuilt_one world
 has_one laws setting world (command.Subcount name cql) valid = unbuilt_one world
 has_one laws setting world (command.Keywords name attr rarity most) valid = unbuilt_one world

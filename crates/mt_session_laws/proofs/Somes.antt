@@ -1,24 +1,27 @@
 -- No command is without a meaning.
-use Rattle.std.proofs.Common.{◌≡◌, ◌⊎◌, ℕ, ◌<◌, ◌≤◌, inl, inr, List, length, Option, None, Some, refl, ◌∙◌, ap}
-use Rattle.std.specs.Prelude.{slice_get}
-use Rattle.std.specs.List.{Contains}
+use Rattle.std.proofs.Common.{◌≡◌, ◌⊎◌, ℕ, ◌<◌, ◌≤◌, inl, inr, List, length, Option, None, Some, Result, Ok, Err, refl}
 use Rattle.std.proofs.lemmas.Bool.{cases_lt}
-use Rattle.std.proofs.lemmas.Option.{slice_get-get_or}
-use Rattle.mt_text_spec.specs.Registries.{attr_names}
+use Rattle.mt_text_spec.specs.Queries.{Query}
+use Rattle.mt_query_spec.specs.Verdicts as verdict
+use Rattle.mt_match_laws.specs.Laws.{HaveSpans}
 use Rattle.mt_shelf_spec.specs.Files.{Files}
 use Rattle.mt_script_spec.specs.Commands as command
 use Rattle.mt_script_spec.specs.Commands.{Ask, Command}
-use Rattle.mt_session_spec.specs.World.{World, Held}
+use Rattle.mt_session_spec.specs.World.{World, Holds}
 use Rattle.mt_session_spec.specs.Settings.{Setting, mapper_names}
+use Rattle.mt_session_spec.specs.Scenes.{Scene, scene_of}
 use Rattle.mt_session_spec.specs.Checks.{NoneStands}
 use Rattle.mt_session_spec.specs.Files.{IsAbsent, IsTooLong, IsFile, file_bytes_limit}
 use Rattle.mt_session_spec.specs.Meaning.{asking, unbuilt, unbuilt_question, Question}
 use Rattle.mt_session_spec.specs.Registering.{registering, BadLine as BadRegistryLine, Baseless}
 use Rattle.mt_session_spec.specs.Adding.{adding, AddsText, BadLine, text_checks}
-use Rattle.mt_session_spec.specs.Counting.{counting, IsLiteral, Undeclared}
+use Rattle.mt_session_spec.specs.Asking.{Reads, Great, Faulty, Undeclared, query_checks}
+use Rattle.mt_session_spec.specs.Counting.{Counts}
+use Rattle.mt_session_spec.specs.Querying.{ListsSpans}
+use Rattle.mt_session_spec.specs.Removing.{removing}
 use Rattle.mt_session_spec.specs.Meanings.{meaning, question}
 use Rattle.mt_session_spec.specs.Answers.{Answer, Lines}
-use Rattle.mt_session_laws.specs.Lawful.{HasSome}
+use Rattle.mt_session_laws.specs.Lawful.{HasSome, SomeQuery}
 use Rattle.mt_session_laws.proofs.Never.{either}
 use Rattle.mt_session_laws.proofs.Texts.{some_text}
 use Rattle.mt_session_laws.proofs.Registries.{some_judged}
@@ -65,18 +68,32 @@ add_some world name file none k =
 
 -- ## Questions
 
-place_of : (names : List (List ℕ)) (name : List ℕ) → Contains names name → (number : ℕ) × (slice_get names number ≡ Some name)
-place_of names name c = (c.0, slice_get-get_or names c.0 name c.1 ∙ ap Some c.2)
+-- what the laws of queries say
+pub record QueryReadings : Type 0 where
+  pub some_query : SomeQuery
+  pub have_spans : HaveSpans
 
-count_some : (held : Held) (cql : List ℕ) → NoneStands (counting held cql).checks → ((lines : List (List ℕ)) → (counting held cql).Answers lines → ⊥) → ⊥
-count_some held cql none k = either ((name : List ℕ) × (value : List ℕ) × IsLiteral cql name value) (λ d. elim d [
-  | inr other ↦ none.0 _ (record { is = refl; there = λ name value l. other (name, value, l) })
-  | inl read ↦ either (Contains (attr_names held.registry.attrs) read.0) (λ e. elim e [
-    | inr unknown ↦ none.1.0 _ (Undeclared read.0 read.1 read.2 unknown)
-    | inl there ↦ let at = place_of (attr_names held.registry.attrs) read.0 there in
-        k _ (record { name = read.0; value = read.1; read = read.2; number = at.0; named = at.1; says = refl })
-  ])
-])
+-- a text that no check of its reading refuses is a query
+asked_query : (laws : QueryReadings) (scene : Scene) (cql : List ℕ) → NoneStands (query_checks scene cql) → (query : Query) × Reads scene cql (Ok query)
+asked_query laws scene cql none = by (laws.some_query scene.registry 0 cql).0 (laws.some_query scene.registry 0 cql).1
+  where
+    by : (said : Result Query verdict.Refusal) → Reads scene cql said → (query : Query) × Reads scene cql (Ok query)
+    by (Ok query) read = (query, read)
+    by (Err verdict.TooLarge) read = absurd (none.0 _ (Great read))
+    by (Err (verdict.Syntax at cause)) read = absurd (none.0 _ (Faulty at cause read))
+    by (Err (verdict.Unknown at)) read = absurd (none.0 _ (Undeclared at read))
+
+count_some : (laws : QueryReadings) (scene : Scene) (cql : List ℕ) → NoneStands (query_checks scene cql) → ((lines : List (List ℕ)) → Counts scene cql lines → ⊥) → ⊥
+count_some laws scene cql none k =
+    let asked = asked_query laws scene cql none in
+    let found = laws.have_spans scene.images scene.registry scene.corpus asked.0 in
+    k _ (record { query = asked.0; read = asked.1; spans = found.0; are = found.1; says = refl })
+
+query_some : (laws : QueryReadings) (scene : Scene) (cql : List ℕ) → NoneStands (query_checks scene cql) → ((lines : List (List ℕ)) → ListsSpans scene cql lines → ⊥) → ⊥
+query_some laws scene cql none k =
+    let asked = asked_query laws scene cql none in
+    let found = laws.have_spans scene.images scene.registry scene.corpus asked.0 in
+    k _ (record { query = asked.0; read = asked.1; spans = found.0; are = found.1; says = refl })
 
 ask_some : (asked : Question) (world : World) → (NoneStands asked.checks → ((lines : List (List ℕ)) → asked.Answers lines → ⊥) → ⊥) → HasSome (asking asked world)
 ask_some asked world some none k = some none (λ lines a. k world (Lines lines) (record { lines = lines; answered = a; same = refl; says = refl }))
@@ -84,35 +101,41 @@ ask_some asked world some none k = some none (λ lines a. k world (Lines lines) 
 unbuilt_asked : NoneStands unbuilt_question.checks → ((lines : List (List ℕ)) → unbuilt_question.Answers lines → ⊥) → ⊥
 unbuilt_asked none k = none.0 _ (record { is = refl; there = tt })
 
-question_some : (setting : Setting) (held : Held) (ask : Ask) → NoneStands (question setting held ask).checks → ((lines : List (List ℕ)) → (question setting held ask).Answers lines → ⊥) → ⊥
-question_some setting held (command.Count cql) = count_some held cql
-question_some setting held (command.Query cql) = unbuilt_asked
-question_some setting held (command.Freq attr offset cql) = unbuilt_asked
-question_some setting held (command.Colloc attr first last least cql) = unbuilt_asked
-question_some setting held (command.Sketch least most lemma) = unbuilt_asked
-question_some setting held (command.Thes most lemma) = unbuilt_asked
+question_some : (laws : QueryReadings) (scene : Scene) (ask : Ask) → NoneStands (question scene ask).checks → ((lines : List (List ℕ)) → (question scene ask).Answers lines → ⊥) → ⊥
+question_some laws scene (command.Count cql) = count_some laws scene cql
+question_some laws scene (command.Query cql) = query_some laws scene cql
+question_some laws scene (command.Freq attr offset cql) = unbuilt_asked
+question_some laws scene (command.Colloc attr first last least cql) = unbuilt_asked
+question_some laws scene (command.Sketch least most lemma) = unbuilt_asked
+question_some laws scene (command.Thes most lemma) = unbuilt_asked
 
 -- ## All commands
 
 unbuilt_some : (world : World) → HasSome (unbuilt world)
 unbuilt_some world none k = none.0 _ (record { is = refl; there = tt })
 
-pub has_some : (setting : Setting) (world : World) (given : Command) → HasSome (meaning setting world given)
-has_some setting world (command.Registry file) = registry_some setting world file
-has_some setting world (command.Text name body) = λ none k. text_some world name body (λ bytes. bytes ≡ body) refl none.1 k
-has_some setting world (command.Add name file) = add_some world name file
-has_some setting world (command.Generate name seed tokens) = unbuilt_some world
-has_some setting world (command.Asks ask) = ask_some (question setting world.held ask) world (question_some setting world.held ask)
-has_some setting world (command.Grammar file) = unbuilt_some world
-has_some setting world (command.Rules body) = unbuilt_some world
-has_some setting world (command.Merge first last) = unbuilt_some world
-has_some setting world (command.Batch asked merge) = unbuilt_some world
-has_some setting world command.Segments = λ none k. k world _ (record { same = refl; says = refl })
-has_some setting world (command.Save name) = unbuilt_some world
-has_some setting world (command.Load name) = unbuilt_some world
-has_some setting world command.Quit = λ none k. k world _ (record { same = refl; says = refl })
-has_some setting world (command.Remove name) = unbuilt_some world
-has_some setting world (command.Subcorpus name cql) = unbuilt_some world
-has_some setting world (command.Subcount name cql) = unbuilt_some world
-has_some setting world (command.Keywords name attr rarity most) = unbuilt_some world
-has_some setting world (command.Partner name kind) = unbuilt_some world
+remove_some : (world : World) (name : List ℕ) → HasSome (removing world name)
+remove_some world name none k = either (Holds world.held name) (λ d. elim d [
+  | inl there ↦ k _ _ (record { text = there.1; there = (there.0, there.2, there.3); named = there.4; changed = refl; says = refl })
+  | inr free ↦ none.0 _ (record { is = refl; there = free })
+])
+
+pub has_some : (laws : QueryReadings) (setting : Setting) (world : World) (given : Command) → HasSome (meaning setting world given)
+has_some laws setting world (command.Registry file) = registry_some setting world file
+has_some laws setting world (command.Text name body) = λ none k. text_some world name body (λ bytes. bytes ≡ body) refl none.1 k
+has_some laws setting world (command.Add name file) = add_some world name file
+has_some laws setting world (command.Generate name seed tokens) = unbuilt_some world
+has_some laws setting world (command.Asks ask) = ask_some (question (scene_of setting world.held) ask) world (question_some laws (scene_of setting world.held) ask)
+has_some laws setting world (command.Grammar file) = unbuilt_some world
+has_some laws setting world (command.Rules body) = unbuilt_some world
+has_some laws setting world (command.Merge first last) = unbuilt_some world
+has_some laws setting world (command.Batch asked merge) = unbuilt_some world
+has_some laws setting world command.Segments = λ none k. k world _ (record { same = refl; says = refl })
+has_some laws setting world (command.Save name) = unbuilt_some world
+has_some laws setting world (command.Load name) = unbuilt_some world
+has_some laws setting world command.Quit = λ none k. k world _ (record { same = refl; says = refl })
+has_some laws setting world (command.Remove name) = remove_some world name
+has_some laws setting world (command.Subcorpus name cql) = unbuilt_some world
+has_some laws setting world (command.Subcount name cql) = unbuilt_some world
+has_some laws setting world (command.Keywords name attr rarity most) = unbuilt_some world
+has_some laws setting world (command.Partner name kind) = unbuilt_some world

@@ -7,20 +7,29 @@ ghost use Rattle.mt_session_spec.specs.Laws.{
   StepsKeepValid,
   RefusedKeep,
   HeldIsValid,
+  QuestionsSeeTheCorpus,
   ItemsAreSaid,
   SomeAnswers,
   OneAnswers,
   RepliesAreAnswers,
   FailuresAreGained,
+  RefusalsAreGained,
 };
 
+use mt_match_laws::{have_spans, spans_are_one};
+use mt_query_laws::{
+    contents_are_few, one_meaning as one_query, patterns_as_written, some_meaning as some_query,
+};
 use mt_registry::{one_registry, one_registry_answer, one_registry_fault, valid_registries};
 use mt_vertical::{no_text_with_fault, one_fault, one_text, valid_texts};
 
 /// No command that can be said is without a meaning in a valid world.
 pub fn some_meaning()
     ensures { SomeMeaning }
-{}
+{
+    some_query();
+    have_spans();
+}
 
 /// No command has two meanings.
 pub fn one_meaning()
@@ -32,6 +41,8 @@ pub fn one_meaning()
     one_registry();
     one_registry_fault();
     one_registry_answer();
+    one_query();
+    spans_are_one();
 }
 
 /// A command leaves a valid world.
@@ -47,9 +58,14 @@ pub fn refused_keep()
     ensures { RefusedKeep }
 {}
 
-/// What is held is valid at first, with another text and with another registry.
+/// What is held is valid at first, with another text, without one and with another registry.
 pub fn held_is_valid()
     ensures { HeldIsValid }
+{}
+
+/// No question sees more of the texts that are held than the corpus.
+pub fn questions_see_the_corpus()
+    ensures { QuestionsSeeTheCorpus }
 {}
 
 /// The commands of a script are those that can be said.
@@ -84,3 +100,11 @@ pub fn replies_are_answers()
 pub fn failures_are_gained()
     ensures { FailuresAreGained }
 {}
+
+/// No refusal of the shop licenses two answers that tell of one.
+pub fn refusals_are_gained()
+    ensures { RefusalsAreGained }
+{
+    patterns_as_written();
+    contents_are_few();
+}

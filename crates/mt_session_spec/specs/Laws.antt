@@ -1,21 +1,26 @@
 -- What follows of the definitions: a command has a meaning, and one only; it keeps the world valid, and changes nothing where it is refused; a script has one answer;
 -- what tells of a failure is licensed by a call that failed.
-use Rattle.std.specs.Prelude.{ℕ, ◌≡◌, ◌≤◌, Bool, List, length, count_by, Some}
-use Rattle.std.specs.List.{All, flat_map}
+use Rattle.std.specs.Prelude.{ℕ, suc, ◌≡◌, ◌≤◌, ◌||◌, Bool, false, List, [], ◌∷◌, length, slice_get, count_by, Some, Ok}
+use Rattle.std.specs.List.{All}
 use Rattle.std.specs.Str.{bytes_eq}
 use Rattle.mt_text_spec.specs.Registries.{Registry, ValidRegistry}
 use Rattle.mt_text_spec.specs.Texts.{Text, ValidText}
-use Rattle.mt_script_spec.specs.Commands.{Command}
+use Rattle.mt_text_spec.specs.Queries.{Query as QueryOf}
+use Rattle.mt_query_spec.specs.Verdicts.{Means}
+use Rattle.mt_query_spec.specs.Contents.{patterns}
+use Rattle.mt_pattern_spec.specs.Patterns.{wrapped}
+use Rattle.mt_script_spec.specs.Commands.{Ask, Command}
 use Rattle.mt_script_spec.specs.Script.{Item, Given, Bad, CutShort, Begins}
 use Rattle.mt_shelf_spec.specs.Files.{Files}
-use Rattle.mt_session_spec.specs.World.{Held, World, ValidHeld, Holds, IsFull, with_text, first_held}
+use Rattle.mt_session_spec.specs.World.{Held, World, ValidHeld, Holds, IsFull, corpus_of, with_text, without_text, first_held}
 use Rattle.mt_session_spec.specs.Settings.{Setting}
+use Rattle.mt_session_spec.specs.Scenes.{scene_of}
 use Rattle.mt_session_spec.specs.Gains.{Gained, none_gained}
-use Rattle.mt_session_spec.specs.Refusals.{failure_line}
-use Rattle.mt_session_spec.specs.Answers.{Answer, Refused, lines_of}
+use Rattle.mt_session_spec.specs.Refusals.{failure_line, pattern_refused_line}
+use Rattle.mt_session_spec.specs.Answers.{Answer, Refused, Lines, Last}
 use Rattle.mt_session_spec.specs.Registering.{with_registry}
-use Rattle.mt_session_spec.specs.Steps.{IsSaid, Fine, Step}
-use Rattle.mt_session_spec.specs.Replies.{Known, Replies, AreAnswers, NoneStarved}
+use Rattle.mt_session_spec.specs.Steps.{IsSaid, Fine, Step, AskStep}
+use Rattle.mt_session_spec.specs.Replies.{Known, Replies, AreAnswers, NoneStarved, NoneDeep, asked_cql}
 use Rattle.mt_session_spec.specs.Runs.{AreTheAnswers}
 
 -- ## One command
@@ -42,12 +47,20 @@ RefusedKeep = (setting : Setting) (world : World) (command : Command) (gained : 
 
 -- ## What is held
 
--- at first, with another text and with another registry it is valid
+-- at first, with another text, without one and with another registry it is valid
 pub record HeldIsValid : Type 0 where
   pub first : ValidHeld first_held
   pub text : (held : Held) (text : Text) → ValidHeld held → ValidText held.registry text → (Holds held text.name → ⊥) → (IsFull held.groups (length text.tokens) → ⊥) →
       ValidHeld (with_text held text)
+  pub without : (held : Held) (name : List ℕ) → ValidHeld held → ValidHeld (without_text held name)
   pub registry : (held : Held) (registry : Registry) → ValidRegistry registry → ValidHeld (with_registry held registry)
+
+-- ## Questions
+
+-- A question sees nothing of the groups but the texts of the corpus: where the registry, the grammar and those texts are the same, it means the same.
+abbrev pub QuestionsSeeTheCorpus : Type 0
+QuestionsSeeTheCorpus = (setting : Setting) (held other : Held) (ask : Ask) → held.registry ≡ other.registry → corpus_of held.groups ≡ corpus_of other.groups → held.grammar ≡ other.grammar →
+    (gained : Gained) (answer : Answer) → AskStep (scene_of setting held) ask gained answer → AskStep (scene_of setting other) ask gained answer
 
 -- ## Many items
 
@@ -71,18 +84,50 @@ abbrev pub OneAnswers : Type 0
 OneAnswers = (setting : Setting) (items : List Item) (world : World) → ValidHeld world.held → All IsSaidItem items →
     (answers others : List Answer) (last other : World) → AreAnswers setting items world answers last → AreAnswers setting items world others other → (answers ≡ others) × (last ≡ other)
 
--- over files that are known, replies of which none tells that memory was wanted, and in which no call failed, are the one answer
+-- Over files that are known, replies of which none tells that memory was wanted, and in which no call failed, are the one answer, where no pattern that is asked for
+-- nests too deep.
 abbrev pub RepliesAreAnswers : Type 0
 RepliesAreAnswers = (setting : Setting) (items : List Item) (files : Files) (answers : List Answer) (last : Known) → All IsSaidItem items →
-    Replies setting items (record { held = first_held; files = Some files }) none_gained answers last → NoneStarved answers → AreTheAnswers setting items files answers
+    Replies setting items (record { held = first_held; files = Some files }) none_gained answers last → NoneStarved answers → NoneDeep items →
+    AreTheAnswers setting items files answers
 
 -- ## Failures
 
--- how many lines of these answers tell that a call of the shelf at this file failed
+-- the answer tells that a call of the shelf at this file failed; a line of a concordance is no such answer, whatever the corpus holds
+abbrev pub tells_failure : List ℕ → Answer → Bool
+tells_failure file (Refused line) = bytes_eq line (failure_line file)
+tells_failure file (Lines lines) = false
+tells_failure file (Last line) = false
+
+-- how many of these answers tell it
 abbrev pub told_failures : List ℕ → List Answer → ℕ
-told_failures file answers = count_by (λ line. bytes_eq line (failure_line file)) (flat_map lines_of answers)
+told_failures file answers = count_by (tells_failure file) answers
 
 -- they are at most as many as the calls that failed at it
 abbrev pub FailuresAreGained : Type 0
 FailuresAreGained = (setting : Setting) (items : List Item) (known : Known) (gained : Gained) (answers : List Answer) (last : Known) → Replies setting items known gained answers last →
     (file : List ℕ) → told_failures file answers ≤ count_by (λ name. bytes_eq name file) gained.failed
+
+-- an answer tells that this pattern was refused: it is the one with the number that is told, of a query that the item asks
+pub record TellsRefusal (pattern : List ℕ) (item : Item) (answer : Answer) : Type 0 where
+  pub cql : List ℕ
+  pub asks : asked_cql item ≡ Some cql
+  pub registry : Registry
+  pub query : QueryOf
+  pub read : Means registry 0 cql (Ok query)
+  pub number : ℕ
+  pub there : slice_get (patterns query) number ≡ Some pattern
+  pub told : answer ≡ Refused (pattern_refused_line (suc number))
+
+-- so many of these answers tell it
+pub data TellRefusals (pattern : List ℕ) : List Item → List Answer → ℕ → Type 0 where
+  NoneTells : TellRefusals pattern [] [] 0
+  OneTells : (item : Item) (items : List Item) (answer : Answer) (answers : List Answer) (count : ℕ) → TellsRefusal pattern item answer → TellRefusals pattern items answers count →
+      TellRefusals pattern (item ∷ items) (answer ∷ answers) (suc count)
+  OneTellsNot : (item : Item) (items : List Item) (answer : Answer) (answers : List Answer) (count : ℕ) → TellRefusals pattern items answers count →
+      TellRefusals pattern (item ∷ items) (answer ∷ answers) count
+
+-- they are at most as many as the texts that the shop refused and that are this pattern, alone or between the marks
+abbrev pub RefusalsAreGained : Type 0
+RefusalsAreGained = (setting : Setting) (items : List Item) (known : Known) (gained : Gained) (answers : List Answer) (last : Known) → Replies setting items known gained answers last →
+    (pattern : List ℕ) (count : ℕ) → TellRefusals pattern items answers count → count ≤ count_by (λ text. bytes_eq text pattern || bytes_eq text (wrapped pattern)) gained.refused

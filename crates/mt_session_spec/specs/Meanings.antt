@@ -1,22 +1,25 @@
 -- What each command and each question means: one case for each.
 use Rattle.mt_script_spec.specs.Commands.{Ask, Count, Query, Freq, Colloc, Sketch, Thes, Command, Registry, Text, Add, Generate, Asks, Grammar, Rules, Merge, Batch, Segments, Save, Load, Quit, Remove, Subcorpus, Subcount, Keywords, Partner}
-use Rattle.mt_session_spec.specs.World.{Held, World}
+use Rattle.mt_session_spec.specs.World.{World}
 use Rattle.mt_session_spec.specs.Settings.{Setting}
+use Rattle.mt_session_spec.specs.Scenes.{Scene, scene_of}
 use Rattle.mt_session_spec.specs.Meaning.{Meaning, Question, unbuilt, unbuilt_question, asking}
 use Rattle.mt_session_spec.specs.Registering.{registering}
 use Rattle.mt_session_spec.specs.Adding.{texting, adding}
 use Rattle.mt_session_spec.specs.Counting.{counting}
+use Rattle.mt_session_spec.specs.Querying.{querying}
 use Rattle.mt_session_spec.specs.Listing.{listing}
 use Rattle.mt_session_spec.specs.Quitting.{quitting}
+use Rattle.mt_session_spec.specs.Removing.{removing}
 
--- what a question means where this is held
-abbrev pub question : Setting → Held → Ask → Question
-question setting held (Count cql) = counting held cql
-question setting held (Query cql) = unbuilt_question
-question setting held (Freq attr offset cql) = unbuilt_question
-question setting held (Colloc attr first last least cql) = unbuilt_question
-question setting held (Sketch least most lemma) = unbuilt_question
-question setting held (Thes most lemma) = unbuilt_question
+-- what a question means where this is seen
+abbrev pub question : Scene → Ask → Question
+question scene (Count cql) = counting scene cql
+question scene (Query cql) = querying scene cql
+question scene (Freq attr offset cql) = unbuilt_question
+question scene (Colloc attr first last least cql) = unbuilt_question
+question scene (Sketch least most lemma) = unbuilt_question
+question scene (Thes most lemma) = unbuilt_question
 
 -- what a command means in a world
 abbrev pub meaning : Setting → World → Command → Meaning
@@ -24,7 +27,7 @@ meaning setting world (Registry file) = registering setting world file
 meaning setting world (Text name body) = texting world name body
 meaning setting world (Add name file) = adding world name file
 meaning setting world (Generate name seed tokens) = unbuilt world
-meaning setting world (Asks ask) = asking (question setting world.held ask) world
+meaning setting world (Asks ask) = asking (question (scene_of setting world.held) ask) world
 meaning setting world (Grammar file) = unbuilt world
 meaning setting world (Rules body) = unbuilt world
 meaning setting world (Merge first last) = unbuilt world
@@ -33,7 +36,7 @@ meaning setting world Segments = listing world
 meaning setting world (Save name) = unbuilt world
 meaning setting world (Load name) = unbuilt world
 meaning setting world Quit = quitting world
-meaning setting world (Remove name) = unbuilt world
+meaning setting world (Remove name) = removing world name
 meaning setting world (Subcorpus name cql) = unbuilt world
 meaning setting world (Subcount name cql) = unbuilt world
 meaning setting world (Keywords name attr rarity most) = unbuilt world

@@ -3,6 +3,7 @@ use Rattle.std.specs.Prelude.{ℕ, List, ◌∷◌, ◌++◌, codes}
 use Rattle.std.specs.Fmt.{decimal}
 use Rattle.mt_file_spec.specs.RegistryFile.{RegistryCause, registry_cause}
 use Rattle.mt_file_spec.specs.Vertical.{TextCause, text_cause}
+use Rattle.mt_query_spec.specs.Verdicts.{Cause, NoQuery, NoStringEnd, NoTokenBegins, Range, BadLabel}
 
 -- why a command is refused
 pub data Refusal : Type 0 where
@@ -15,8 +16,21 @@ pub data Refusal : Type 0 where
   BadRegistry : (line : ℕ) (cause : RegistryCause) → Refusal
   NoAttribute : Refusal
   BadVertical : (line : ℕ) (cause : TextCause) → Refusal
+  BadQuery : (at : ℕ) (cause : Cause) → Refusal
   UnknownName : (name : List ℕ) → Refusal
+  BadPattern : (k : ℕ) → Refusal
+  TooManyRows : Refusal
   CorpusFull : Refusal
+  QueryTooLarge : Refusal
+  NoSuchText : (name : List ℕ) → Refusal
+
+-- why the text of a query is refused at a place
+abbrev pub query_cause : Cause → List ℕ
+query_cause NoQuery = codes "Token"
+query_cause NoStringEnd = codes "String"
+query_cause NoTokenBegins = codes "Char"
+query_cause Range = codes "Range"
+query_cause BadLabel = codes "Label"
 
 -- the line that answers a refused command
 abbrev pub refusal_line : Refusal → List ℕ
@@ -29,8 +43,17 @@ refusal_line (FileTooLong file) = codes "! 15 FileTooLong " ++ file
 refusal_line (BadRegistry line cause) = codes "! 16 BadRegistry " ++ decimal line ++ 32 ∷ registry_cause cause
 refusal_line NoAttribute = codes "! 16 BadRegistry 0 NoAttribute"
 refusal_line (BadVertical line cause) = codes "! 17 BadVertical " ++ decimal line ++ 32 ∷ text_cause cause
+refusal_line (BadQuery at cause) = codes "! 18 BadQuery " ++ decimal at ++ 32 ∷ query_cause cause
 refusal_line (UnknownName name) = codes "! 19 UnknownName " ++ name
+refusal_line (BadPattern k) = codes "! 20 BadPattern " ++ decimal k
+refusal_line TooManyRows = codes "! 22 TooManyRows"
 refusal_line CorpusFull = codes "! 23 CorpusFull"
+refusal_line QueryTooLarge = codes "! 27 QueryTooLarge"
+refusal_line (NoSuchText name) = codes "! 31 NoSuchText " ++ name
+
+-- the line that tells that the shop refused the pattern with this number
+abbrev pub pattern_refused_line : ℕ → List ℕ
+pattern_refused_line k = codes "! 21 PatternRefused " ++ decimal k
 
 -- the line that tells that a call of the shelf at this file failed
 abbrev pub failure_line : List ℕ → List ℕ

@@ -1,13 +1,18 @@
 -- What is answered to the items of a script.
-use Rattle.std.specs.Prelude.{◌≡◌, ◌≢◌, List, [], ◌∷◌, Option, Some, option_map}
+use Rattle.std.specs.Prelude.{ℕ, ◌≡◌, ◌≢◌, List, [], ◌∷◌, Option, None, Some, option_map, Ok}
 use Rattle.std.specs.List.{All}
-use Rattle.mt_script_spec.specs.Commands.{Quit}
+use Rattle.mt_text_spec.specs.Registries.{Registry}
+use Rattle.mt_text_spec.specs.Queries.{Query as QueryOf}
+use Rattle.mt_query_spec.specs.Verdicts.{Means}
+use Rattle.mt_query_spec.specs.Contents.{patterns}
+use Rattle.mt_script_spec.specs.Commands.{Count, Query, Asks, Quit}
 use Rattle.mt_script_spec.specs.Script.{Item, Given, Bad, CutShort}
 use Rattle.mt_shelf_spec.specs.Files.{Files}
 use Rattle.mt_session_spec.specs.World.{Held, World, first_held}
 use Rattle.mt_session_spec.specs.Settings.{Setting}
 use Rattle.mt_session_spec.specs.Gains.{Gained, none_gained, gained_then}
 use Rattle.mt_session_spec.specs.Refusals.{Refusal, refusal_line, no_memory_line, BadCommand, CutShort as CutShortRefusal}
+use Rattle.mt_session_spec.specs.Patterns.{IsDeep}
 use Rattle.mt_session_spec.specs.Answers.{Answer, Refused}
 use Rattle.mt_session_spec.specs.Steps.{Fine, Step}
 
@@ -81,3 +86,25 @@ NoQuit items = All (λ item. item ≢ Given Quit) items
 -- no answer tells that memory was wanted
 abbrev pub NoneStarved : List Answer → Type 0
 NoneStarved answers = All (λ answer. answer ≢ Refused no_memory_line) answers
+
+-- ## Patterns that nest too deep
+
+-- the query of an item, where it asks one
+abbrev pub asked_cql : Item → Option (List ℕ)
+asked_cql (Given (Asks (Count cql))) = Some cql
+asked_cql (Given (Asks (Query cql))) = Some cql
+asked_cql item = None
+
+-- The item asks a query with a pattern that, alone or between the marks, nests deeper than patterns may: it may be refused as if it were none.
+pub record AsksDeep (item : Item) : Type 0 where
+  pub cql : List ℕ
+  pub asks : asked_cql item ≡ Some cql
+  pub registry : Registry
+  pub query : QueryOf
+  pub read : Means registry 0 cql (Ok query)
+  pub number : ℕ
+  pub deep : IsDeep (patterns query) number
+
+-- no item asks such a query
+abbrev pub NoneDeep : List Item → Type 0
+NoneDeep items = All (λ item. ¬ AsksDeep item) items

@@ -8,7 +8,7 @@ use Rattle.mt_session_spec.specs.World.{World, first_held}
 use Rattle.mt_session_spec.specs.Settings.{Setting}
 use Rattle.mt_session_spec.specs.Gains.{Gained}
 use Rattle.mt_session_spec.specs.Answers.{Answer, bytes_of, output_of}
-use Rattle.mt_session_spec.specs.Replies.{Known, first_known, Replies, AreAnswers, NoQuit, NoneStarved}
+use Rattle.mt_session_spec.specs.Replies.{Known, first_known, Replies, AreAnswers, NoQuit, NoneStarved, NoneDeep}
 
 -- the most bytes of a script
 abbrev pub script_bytes_limit : ℕ
@@ -159,8 +159,8 @@ pub record AreTheAnswers (setting : Setting) (items : List Item) (files : Files)
   pub are : AreAnswers setting items (record { held = first_held; files = files }) answers last
   pub one : (others : List Answer) (other : World) → AreAnswers setting items (record { held = first_held; files = files }) others other → others ≡ answers
 
--- What was taken are these items and a rest that is none, or they end with the first `quit`. What was written are answers to them, and where none of these tells that
--- memory was wanted, they are the one answer of the script.
+-- What was taken are these items and a rest that is none, or they end with the first `quit`. What was written are answers to them. Where none of these tells that
+-- memory was wanted, and no pattern that is asked for nests too deep, they are the one answer of the script.
 pub record AnswersScript (setting : Setting) (input written : List ℕ) (files : Files) (end : Outside) : Type 0 where
   pub ended : Bool
   pub taken : List ℕ
@@ -170,4 +170,4 @@ pub record AnswersScript (setting : Setting) (input written : List ℕ) (files :
   pub answers : List Answer
   pub read : Items ended taken items rest ⊎ ((first : List Item) × (items ≡ first ++ Given Quit ∷ []) × NoQuit first × Begins ended taken items rest)
   pub held : end.written ≡ Some (written ++ output_of answers)
-  pub one : NoneStarved answers → AreTheAnswers setting items files answers
+  pub one : NoneStarved answers → NoneDeep items → AreTheAnswers setting items files answers

@@ -1,8 +1,9 @@
 -- What one command and one question do: the world behind it, and the answer.
 use Rattle.std.specs.Prelude.{ℕ, List}
 use Rattle.mt_script_spec.specs.Commands.{Ask, Command, Header, IsHeader, WithBody}
-use Rattle.mt_session_spec.specs.World.{Held, World}
+use Rattle.mt_session_spec.specs.World.{World}
 use Rattle.mt_session_spec.specs.Settings.{Setting}
+use Rattle.mt_session_spec.specs.Scenes.{Scene}
 use Rattle.mt_session_spec.specs.Gains.{Gained}
 use Rattle.mt_session_spec.specs.Refusals.{Refusal, refusal_line, no_memory_line}
 use Rattle.mt_session_spec.specs.Checks.{FirstStands, NoneStands}
@@ -47,6 +48,6 @@ pub data AskStepBy (asked : Question) (gained : Gained) : Answer → Type 0 wher
   AskStarved : AskStepBy asked gained (Refused no_memory_line)
   AskExcepted : (line : List ℕ) → asked.Excepts gained line → AskStepBy asked gained (Refused line)
 
--- what a question is answered where this is held
-abbrev pub AskStep : Setting → Held → Ask → Gained → Answer → Type 0
-AskStep setting held ask gained answer = AskStepBy (question setting held ask) gained answer
+-- what a question is answered where this is seen
+abbrev pub AskStep : Scene → Ask → Gained → Answer → Type 0
+AskStep scene ask gained answer = AskStepBy (question scene ask) gained answer

@@ -9,4 +9,6 @@ returns c = one_meaning (record {
   one_registry = c.one_registry.ensures;
   one_registry_fault = c.one_registry_fault.ensures;
   apart = c.one_registry_answer.ensures;
+  one_query = c.one_meaning.ensures;
+  one_spans = c.spans_are_one.ensures;
 })
