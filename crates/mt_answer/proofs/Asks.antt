@@ -1,47 +1,56 @@
 -- What the replies to questions mean.
-use Rattle.std.proofs.Common.{◌≡◌, ℕ, ◌⊎◌, inl, inr, List, refl}
-use Rattle.mt_text_spec.specs.Registries.{Registry}
-use Rattle.mt_text_spec.specs.Texts.{Text}
+use Rattle.std.proofs.Common.{◌≡◌, ℕ, ◌⊎◌, inl, inr, List, [], Option, refl, sym, append-nil}
+use Rattle.mt_text_spec.specs.Queries.{Grammar}
 use Rattle.mt_text_spec.specs.Lines.{closed}
-use Rattle.mt_session_spec.specs.Gains.{none_gained}
+use Rattle.mt_match_spec.specs.Values.{Images}
+use Rattle.mt_corpus_spec.specs.Images.{Corpus}
+use Rattle.mt_script_spec.specs.Commands.{Ask}
+use Rattle.mt_session_spec.specs.Gains.{Gained}
 use Rattle.mt_session_spec.specs.Refusals.{Refusal, BadCommand, refusal_line, no_memory_line}
 use Rattle.mt_session_spec.specs.Checks.{FirstStands}
 use Rattle.mt_session_spec.specs.Answers.{Answer, Refused}
 use Rattle.mt_session_spec.specs.Meaning.{Question, unbuilt_question}
-use Rattle.mt_session_spec.specs.Steps.{AskStepBy, AskDeclined, AskStarved}
+use Rattle.mt_session_spec.specs.Steps.{AskStep, AskStepBy, AskDeclined, AskStarved}
 use Rattle.mt_script.specs.Seen.{ask_of}
 use Rattle.mt_script.specs.declared.command.Ask.{Ask as RustAsk}
 use Rattle.mt_script.specs.declared.command.Ask.TheVariants as ask
 use Rattle.mt_answer.specs.declared.reply.Reply.{Reply}
 use Rattle.mt_answer.specs.declared.reply.Reply.TheVariants.{Refused as RefusedReply, NoMemory}
-use Rattle.mt_answer.specs.Replies.{SaysOf, SaysRefused, SaysNoMemory, Given, AnswersAsk}
+use Rattle.mt_answer.specs.Replies.{SaysOf, SaysRefused, SaysNoMemory, Given, AnswersAsk, seen, gained_of}
 
-abbrev pub Asked : Question → Reply → Type 0
-Asked asked reply = SaysOf (λ answer. AskStepBy asked none_gained answer) reply
+abbrev pub Asked : Question → Gained → Reply → Type 0
+Asked asked gained reply = SaysOf (λ answer. AskStepBy asked gained answer) reply
 
 -- the question is declined by this refusal
-pub declined : (asked : Question) (refusal : Refusal) (reply : Reply) → FirstStands asked.checks refusal → Given (Refused (refusal_line refusal)) reply → Asked asked reply
-declined asked refusal reply f g = record { answer = g.answer; says = g.says; holds = by g.answer g.holds }
+pub declined : (asked : Question) (gained : Gained) (refusal : Refusal) (reply : Reply) → FirstStands asked.checks refusal → Given (Refused (refusal_line refusal)) reply → Asked asked gained reply
+declined asked gained refusal reply f g = record { answer = g.answer; says = g.says; holds = by g.answer g.holds }
   where
-    by : (answer : Answer) → (answer ≡ Refused (refusal_line refusal)) ⊎ (answer ≡ Refused no_memory_line) → AskStepBy asked none_gained answer
+    by : (answer : Answer) → (answer ≡ Refused (refusal_line refusal)) ⊎ (answer ≡ Refused no_memory_line) → AskStepBy asked gained answer
     by answer (inl e) = rw e (AskDeclined refusal f)
     by answer (inr e) = rw e AskStarved
 
 -- memory was wanted
-pub starved : (asked : Question) → Asked asked NoMemory
-starved asked = record { answer = Refused no_memory_line; says = SaysNoMemory; holds = AskStarved }
+pub starved : (asked : Question) (gained : Gained) → Asked asked gained NoMemory
+starved asked gained = record { answer = Refused no_memory_line; says = SaysNoMemory; holds = AskStarved }
 
-unbuilt : (reply : Reply) → Given (Refused (refusal_line BadCommand)) reply → Asked unbuilt_question reply
-unbuilt reply g = declined unbuilt_question BadCommand reply (inl (record { is = refl; there = tt })) g
+-- ## Where no shop was asked
 
-pub unbuilt_ask : (registry : Registry) (texts : List Text) (given : RustAsk) (reply : Reply) → ((cql : List ℕ) → given ≡ ask.Count cql → ⊥) → Given (Refused (refusal_line BadCommand)) reply →
-    AnswersAsk registry texts (ask_of given) reply
-unbuilt_ask registry texts (ask.Count cql) reply none g held r t = absurd (none cql refl)
-unbuilt_ask registry texts (ask.Query cql) reply none g held r t = unbuilt reply g
-unbuilt_ask registry texts (ask.Freq attr offset cql) reply none g held r t = unbuilt reply g
-unbuilt_ask registry texts (ask.Colloc attr first last least cql) reply none g held r t = unbuilt reply g
-unbuilt_ask registry texts (ask.Sketch least most lemma) reply none g held r t = unbuilt reply g
-unbuilt_ask registry texts (ask.Thes most lemma) reply none g held r t = unbuilt reply g
+-- a reply that answers where the shop refused nothing
+pub unasked : (corpus : Corpus) (asked : Ask) (old : List (List ℕ)) (reply : Reply) →
+    ((images : Images) (grammar : Option Grammar) → SaysOf (λ answer. AskStep (seen images corpus grammar) asked (gained_of []) answer) reply) → AnswersAsk corpus asked old old reply
+unasked corpus asked old reply answers = record { refused = []; more = sym (append-nil old); answers = λ images grammar agree. answers images grammar }
+
+unbuilt : (reply : Reply) → Given (Refused (refusal_line BadCommand)) reply → Asked unbuilt_question (gained_of []) reply
+unbuilt reply g = declined unbuilt_question (gained_of []) BadCommand reply (inl (record { is = refl; there = tt })) g
+
+pub unbuilt_ask : (corpus : Corpus) (old : List (List ℕ)) (given : RustAsk) (reply : Reply) → ((cql : List ℕ) → given ≡ ask.Count cql → ⊥) → ((cql : List ℕ) → given ≡ ask.Query cql → ⊥) →
+    Given (Refused (refusal_line BadCommand)) reply → AnswersAsk corpus (ask_of given) old old reply
+unbuilt_ask corpus old (ask.Count cql) reply no_count no_query g = absurd (no_count cql refl)
+unbuilt_ask corpus old (ask.Query cql) reply no_count no_query g = absurd (no_query cql refl)
+unbuilt_ask corpus old (ask.Freq attr offset cql) reply no_count no_query g = unasked corpus (ask_of (ask.Freq attr offset cql)) old reply (λ images grammar. unbuilt reply g)
+unbuilt_ask corpus old (ask.Colloc attr first last least cql) reply no_count no_query g = unasked corpus (ask_of (ask.Colloc attr first last least cql)) old reply (λ images grammar. unbuilt reply g)
+unbuilt_ask corpus old (ask.Sketch least most lemma) reply no_count no_query g = unasked corpus (ask_of (ask.Sketch least most lemma)) old reply (λ images grammar. unbuilt reply g)
+unbuilt_ask corpus old (ask.Thes most lemma) reply no_count no_query g = unasked corpus (ask_of (ask.Thes most lemma)) old reply (λ images grammar. unbuilt reply g)
 
 -- ## Refusals
 

@@ -1,3 +1,8 @@
-pub mod Literals
 pub mod Asks
-pub mod Counts
+pub mod Patterns
+pub mod Same
+pub mod Checks
+pub mod Declines
+pub mod SpanCounts
+pub mod Texts
+pub mod Answers

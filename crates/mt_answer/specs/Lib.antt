@@ -1,3 +1,5 @@
 pub mod Refusals
 pub mod Replies
-pub mod Literals
+pub mod Declines
+pub mod Errors
+pub mod Rows

@@ -1,7 +1,8 @@
 -- What contracts see of a refusal.
-use Rattle.mt_session_spec.specs.Refusals.{Refusal, BadCommand, RegistryLate, NameTaken, NoSuchFile, FileTooLong, BadRegistry, NoAttribute, BadVertical, UnknownName, CorpusFull}
+use Rattle.mt_session_spec.specs.Refusals.{Refusal, BadCommand, RegistryLate, NameTaken, NoSuchFile, FileTooLong, BadRegistry, NoAttribute, BadVertical, BadQuery, UnknownName, BadPattern, TooManyRows, CorpusFull, QueryTooLarge, NoSuchText}
 use Rattle.mt_registry.specs.RegistryErrors.{registry_cause_of}
 use Rattle.mt_vertical.specs.Causes.{text_cause_of}
+use Rattle.mt_cql.specs.Read.{cause_seen}
 use Rattle.mt_answer.specs.declared.refusal.Refusal.{Refusal as RustRefusal}
 use Rattle.mt_answer.specs.declared.refusal.Refusal.TheVariants as refusal
 
@@ -15,5 +16,10 @@ refusal_of (refusal.FileTooLong file) = FileTooLong file.now
 refusal_of (refusal.BadRegistry bad) = BadRegistry bad.line (registry_cause_of bad.cause)
 refusal_of refusal.NoAttribute = NoAttribute
 refusal_of (refusal.BadVertical bad) = BadVertical bad.line (text_cause_of bad.cause)
+refusal_of (refusal.BadQuery at cause) = BadQuery at (cause_seen cause)
 refusal_of (refusal.UnknownName name) = UnknownName name.now
+refusal_of (refusal.BadPattern number) = BadPattern number
+refusal_of refusal.TooManyRows = TooManyRows
 refusal_of refusal.CorpusFull = CorpusFull
+refusal_of refusal.QueryTooLarge = QueryTooLarge
+refusal_of (refusal.NoSuchText name) = NoSuchText name.now

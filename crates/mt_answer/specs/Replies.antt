@@ -1,13 +1,14 @@
 -- What a reply of the program says.
-use Rattle.std.specs.Prelude.{ℕ, ◌≡◌, ◌⊎◌, List}
+use Rattle.std.specs.Prelude.{ℕ, ◌≡◌, ◌⊎◌, List, [], ◌++◌, Option}
 use Rattle.std.specs.List.{flat_map}
 use Rattle.mt_text_spec.specs.Lines.{closed}
-use Rattle.mt_text_spec.specs.Registries.{Registry}
-use Rattle.mt_text_spec.specs.Texts.{Text}
+use Rattle.mt_text_spec.specs.Queries.{Grammar}
+use Rattle.mt_match_spec.specs.Values.{Images}
+use Rattle.mt_corpus_spec.specs.Groups.{corpus_of}
+use Rattle.mt_corpus_spec.specs.Images.{Corpus, AreImagesBy}
 use Rattle.mt_script_spec.specs.Commands.{Ask}
-use Rattle.mt_session_spec.specs.World.{Held, corpus_of}
-use Rattle.mt_session_spec.specs.Settings.{bare_setting}
-use Rattle.mt_session_spec.specs.Gains.{none_gained}
+use Rattle.mt_session_spec.specs.Scenes.{Scene}
+use Rattle.mt_session_spec.specs.Gains.{Gained}
 use Rattle.mt_session_spec.specs.Refusals.{no_memory_line}
 use Rattle.mt_session_spec.specs.Answers as answers
 use Rattle.mt_session_spec.specs.Steps.{AskStep}
@@ -31,7 +32,20 @@ pub record SaysOf (P : answers.Answer → Type 0) (reply : Reply) : Type 0 where
 abbrev pub Given : answers.Answer → Reply → Type 0
 Given expected reply = SaysOf (λ answer. (answer ≡ expected) ⊎ (answer ≡ answers.Refused no_memory_line)) reply
 
--- it answers this question wherever this registry and these texts are held
-abbrev pub AnswersAsk : Registry → List Text → Ask → Reply → Type 0
-AnswersAsk registry texts ask reply =
-    (held : Held) → held.registry ≡ registry → corpus_of held.groups ≡ texts → SaysOf (λ answer. AskStep bare_setting held ask none_gained answer) reply
+-- ## Questions
+
+-- what a question sees where this corpus and this grammar are held, under these images
+abbrev pub seen : Images → Corpus → Option Grammar → Scene
+seen images corpus grammar = record { images = images; registry = corpus.registry; corpus = corpus_of corpus.groups; grammar = grammar }
+
+-- the shop refused these texts, and no call of the shelf failed
+abbrev pub gained_of : List (List ℕ) → Gained
+gained_of refused = record { failed = []; refused = refused }
+
+-- The reply answers this question wherever this corpus is held, whatever the images that agree with those taken. Meanwhile the shop, which had refused the old texts,
+-- came to have refused the new ones.
+pub record AnswersAsk (corpus : Corpus) (ask : Ask) (old new : List (List ℕ)) (reply : Reply) : Type 0 where
+  pub refused : List (List ℕ)
+  pub more : new ≡ old ++ refused
+  pub answers : (images : Images) (grammar : Option Grammar) → AreImagesBy images corpus.taken →
+      SaysOf (λ answer. AskStep (seen images corpus grammar) ask (gained_of refused) answer) reply

@@ -1,23 +1,26 @@
 //! Questions.
 
-ghost use Rattle.mt_text_spec.specs.Registries.{ValidRegistry};
 ghost use Rattle.mt_script.specs.Seen.{ask_of};
 ghost use Rattle.mt_answer.specs.Replies.{AnswersAsk};
+ghost use Rattle.mt_answer.specs.Rows.{HasImages};
 
 use super::counting::count;
+use super::querying::query;
 use super::refusal::Refusal;
 use super::reply::{Reply, refused};
-use mt_base::{Registry, Text};
+use mt_corpus::Corpus;
+use mt_pattern::PatternShop;
 use mt_script::Ask;
 use std::alloc::Global;
 
-/// Answers a question about these texts. Those that are not built yet are refused.
-pub fn answer(alloc: Global, registry: &Registry, texts: &[Text], ask: &Ask) -> Reply
-    requires { ValidRegistry registry.now }
-    ensures { AnswersAsk registry.now texts.now (ask_of ask.now) result }
+/// Answers a question about a corpus. Those that are not built yet are refused. The caller knows mappers that make the images that the corpus has taken.
+pub fn answer<P: PatternShop>(alloc: Global, corpus: &Corpus, ask: &Ask, shop: &mut P) -> Reply
+    requires { HasImages corpus.now }
+    ensures { AnswersAsk corpus.now (ask_of ask.now) (P.refused shop.old) (P.refused shop.new) result }
 {
     match ask {
-        Ask::Count { cql } => count(alloc, registry, texts, cql),
+        Ask::Count { cql } => count(alloc, corpus, cql, shop),
+        Ask::Query { cql } => query(alloc, corpus, cql, shop),
         _ => refused(alloc, &Refusal::BadCommand),
     }
 }

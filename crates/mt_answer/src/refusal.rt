@@ -3,10 +3,12 @@
 ghost use Rattle.std.specs.Prelude.{◌≡◌, ◌∷◌, ◌++◌, IfOk, string_bytes};
 ghost use Rattle.std.specs.Fmt.{decimal};
 ghost use Rattle.mt_text_spec.specs.Lines.{closed};
-ghost use Rattle.mt_session_spec.specs.Refusals.{refusal_line, failure_line};
+ghost use Rattle.mt_cql.specs.Read.{cause_seen};
+ghost use Rattle.mt_session_spec.specs.Refusals.{refusal_line, failure_line, pattern_refused_line, query_cause};
 ghost use Rattle.mt_answer.specs.Refusals.{refusal_of};
 
 use mt_base::{List, NoMemory};
+use mt_cql::Cause;
 use mt_registry::BadLine as BadRegistryLine;
 use mt_vertical::BadLine as BadTextLine;
 use std::alloc::Global;
@@ -23,7 +25,7 @@ pub const NO_MEMORY: &str = "! 30 NoMemory\n";
 /// Why a command is refused.
 #[derive(Clone, Copy, Debug)]
 pub enum Refusal<'a> {
-    /// The line is no command, or its query is of no form that is read yet.
+    /// The line is no command.
     BadCommand,
     /// A registry was accepted before, or a text or a grammar is held.
     RegistryLate,
@@ -39,10 +41,20 @@ pub enum Refusal<'a> {
     NoAttribute,
     /// This line is the first that the text is refused for.
     BadVertical(BadTextLine),
-    /// No attribute of this name is declared.
+    /// The text is no query, by what stands at this byte.
+    BadQuery { at: u32, cause: Cause },
+    /// Nothing of this name is declared.
     UnknownName(&'a str),
+    /// The pattern with this number, counted from 1, is none, or it nests too deep.
+    BadPattern(u32),
+    /// The head of the query or an operand has too many rows.
+    TooManyRows,
     /// There is no room for the text.
     CorpusFull,
+    /// The text of the query is too long or nests too deep, or the query is too great.
+    QueryTooLarge,
+    /// The corpus has no text of this name.
+    NoSuchText(&'a str),
 }
 
 impl Refusal<'_> {
@@ -57,38 +69,63 @@ impl Refusal<'_> {
         ensures { IfOk result (λ text. string_bytes text ≡ closed (refusal_line (refusal_of self.now))) }
     {
         match self {
-            Refusal::BadCommand => Ok(String::from_str(alloc, BAD_COMMAND)?),
-            Refusal::RegistryLate => Ok(String::from_str(alloc, "! 12 RegistryLate\n")?),
-            Refusal::NameTaken(name) => Ok(format!(in alloc; "! 13 NameTaken {name}\n")?),
-            Refusal::NoSuchFile(file) => Ok(format!(in alloc; "! 14 NoSuchFile {file}\n")?),
-            Refusal::FileTooLong(file) => Ok(format!(in alloc; "! 15 FileTooLong {file}\n")?),
-            Refusal::BadRegistry(bad) => bad_line(
-                alloc,
-                "! 16 BadRegistry",
-                bad.line,
-                bad.cause.word(),
-            ),
-            Refusal::NoAttribute => Ok(String::from_str(
-                alloc,
-                "! 16 BadRegistry 0 NoAttribute\n",
-            )?),
-            Refusal::BadVertical(bad) => bad_line(
-                alloc,
-                "! 17 BadVertical",
-                bad.line,
-                bad.cause.word(),
-            ),
-            Refusal::UnknownName(name) => Ok(format!(in alloc; "! 19 UnknownName {name}\n")?),
-            Refusal::CorpusFull => Ok(String::from_str(alloc, "! 23 CorpusFull\n")?),
+            Refusal::BadCommand => whole(alloc, BAD_COMMAND),
+            Refusal::RegistryLate => whole(alloc, "! 12 RegistryLate\n"),
+            Refusal::NameTaken(name) => named(alloc, "! 13 NameTaken", name),
+            Refusal::NoSuchFile(file) => named(alloc, "! 14 NoSuchFile", file),
+            Refusal::FileTooLong(file) => named(alloc, "! 15 FileTooLong", file),
+            Refusal::BadRegistry(bad) => {
+                placed(alloc, "! 16 BadRegistry", bad.line, bad.cause.word())
+            }
+            Refusal::NoAttribute => whole(alloc, "! 16 BadRegistry 0 NoAttribute\n"),
+            Refusal::BadVertical(bad) => {
+                placed(alloc, "! 17 BadVertical", bad.line, bad.cause.word())
+            }
+            Refusal::BadQuery { at, cause } => {
+                placed(alloc, "! 18 BadQuery", *at as usize, cause_word(*cause))
+            }
+            Refusal::UnknownName(name) => named(alloc, "! 19 UnknownName", name),
+            Refusal::BadPattern(number) => Ok(format!(in alloc; "! 20 BadPattern {number}\n")?),
+            Refusal::TooManyRows => whole(alloc, "! 22 TooManyRows\n"),
+            Refusal::CorpusFull => whole(alloc, "! 23 CorpusFull\n"),
+            Refusal::QueryTooLarge => whole(alloc, "! 27 QueryTooLarge\n"),
+            Refusal::NoSuchText(name) => named(alloc, "! 31 NoSuchText", name),
         }
     }
 }
 
-/// The reply that names a line and a cause.
-fn bad_line(alloc: Global, head: &str, line: usize, cause: &str) -> Result<String, NoMemory>
-    ensures { IfOk result (λ text. string_bytes text ≡ closed (head.now ++ 32 ∷ decimal line ++ 32 ∷ cause.now)) }
+/// A reply of this text.
+fn whole(alloc: Global, text: &str) -> Result<String, NoMemory>
+    ensures { IfOk result (λ made. string_bytes made ≡ text.now) }
 {
-    Ok(format!(in alloc; "{head} {line} {cause}\n")?)
+    Ok(String::from_str(alloc, text)?)
+}
+
+/// The reply that names a text or a file.
+fn named(alloc: Global, head: &str, name: &str) -> Result<String, NoMemory>
+    ensures { IfOk result (λ text. string_bytes text ≡ closed (head.now ++ 32 ∷ name.now)) }
+{
+    Ok(format!(in alloc; "{head} {name}\n")?)
+}
+
+/// Why the text of a query is refused at a place, in one word.
+fn cause_word(cause: Cause) -> &'static str
+    ensures { result.now ≡ query_cause (cause_seen cause) }
+{
+    match cause {
+        Cause::Token => "Token",
+        Cause::String => "String",
+        Cause::Char => "Char",
+        Cause::Range => "Range",
+        Cause::Label => "Label",
+    }
+}
+
+/// The reply that names a line or a byte, and a cause.
+fn placed(alloc: Global, head: &str, place: usize, cause: &str) -> Result<String, NoMemory>
+    ensures { IfOk result (λ text. string_bytes text ≡ closed (head.now ++ 32 ∷ decimal place ++ 32 ∷ cause.now)) }
+{
+    Ok(format!(in alloc; "{head} {place} {cause}\n")?)
 }
 
 /// The reply where a call of the shelf at this file failed.
@@ -96,4 +133,11 @@ pub fn failure(alloc: Global, file: &str) -> Result<List<u8>, NoMemory>
     ensures { IfOk result (λ line. line ≡ closed (failure_line file.now)) }
 {
     Ok(List::from_vec(format!(in alloc; "! 29 ShelfFailed {file}\n")?.into_bytes()))
+}
+
+/// The reply where the shop refused the pattern with this number, counted from 1.
+pub fn pattern_line(alloc: Global, number: u32) -> Result<List<u8>, NoMemory>
+    ensures { IfOk result (λ line. line ≡ closed (pattern_refused_line number)) }
+{
+    Ok(List::from_vec(format!(in alloc; "! 21 PatternRefused {number}\n")?.into_bytes()))
 }

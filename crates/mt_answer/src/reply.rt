@@ -1,6 +1,6 @@
 //! What is answered.
 
-ghost use Rattle.std.specs.Prelude.{◌≡◌, ◌∷◌, ◌++◌, IfOk};
+ghost use Rattle.std.specs.Prelude.{◌≡◌, ◌∷◌, ◌++◌, IfOk, OnErr};
 ghost use Rattle.std.specs.Fmt.{decimal};
 ghost use Rattle.mt_text_spec.specs.Lines.{closed};
 ghost use Rattle.mt_session_spec.specs.Answers as answers;
@@ -8,7 +8,7 @@ ghost use Rattle.mt_session_spec.specs.Refusals as refusals;
 ghost use Rattle.mt_answer.specs.Refusals.{refusal_of};
 ghost use Rattle.mt_answer.specs.Replies.{Says, Given};
 
-use super::refusal::{Refusal, failure};
+use super::refusal::{Refusal, failure, pattern_line};
 use mt_base::{List, NoMemory, Value};
 use std::alloc::Global;
 
@@ -35,11 +35,32 @@ pub fn refused(alloc: Global, refusal: &Refusal<'_>) -> Reply
     }
 }
 
+/// The reply of these lines, or that there was no memory for them.
+pub fn lines(made: Result<List<u8>, NoMemory>) -> Reply
+    ensures made { IfOk made (λ bytes. result ≡ Reply.Lines bytes) }
+    ensures starved { OnErr made (result ≡ Reply.NoMemory) }
+{
+    match made {
+        Ok(bytes) => Reply::Lines(bytes),
+        Err(NoMemory) => Reply::NoMemory,
+    }
+}
+
 /// The reply where a call of the shelf at this file failed.
 pub fn failed(alloc: Global, file: &Value) -> Reply
     ensures { Given (answers.Refused (refusals.failure_line file.now)) result }
 {
     match failure(alloc, file.as_str()) {
+        Ok(line) => Reply::Refused(line),
+        Err(NoMemory) => Reply::NoMemory,
+    }
+}
+
+/// The reply where the shop refused the pattern with this number, counted from 1.
+pub fn pattern_refused(alloc: Global, number: u32) -> Reply
+    ensures { Given (answers.Refused (refusals.pattern_refused_line number)) result }
+{
+    match pattern_line(alloc, number) {
         Ok(line) => Reply::Refused(line),
         Err(NoMemory) => Reply::NoMemory,
     }

@@ -1,15 +1,20 @@
 //! The program: answers the script on its standard input.
 #![tactic(auto)]
 
-ghost use Rattle.std.specs.Prelude.{◌≡◌, ◌↔◌};
+ghost use Rattle.std.specs.Prelude.{◌≡◌, ◌↔◌, IfOk};
+ghost use Rattle.mt_segment.specs.Mappers.{named};
 ghost use Rattle.mt_shell.specs.Ends.{EndsAs, FaultsAs};
 ghost use Rattle.mt_shell.specs.Outsides.{outside};
+ghost use Rattle.mt_shell.specs.Serves.{setting_of};
 ghost use Rattle.mt_shell.specs.Words.{AreGood};
 ghost use Rattle.mt_prog.specs.Exits.{exit_of};
 
 mod standard;
 
+use mt_base::NoMemory;
+use mt_mapper::{Fold, Mapper, Prefix, Suffix};
 use mt_outside::{Shelf, Sink, Source};
+use mt_pattern::{PatternShop, RegexShop};
 use mt_shell::{Status, run};
 use standard::{FolderShelf, StdinSource, StdoutSink};
 use std::alloc::Global;
@@ -23,7 +28,9 @@ fn main(rt: HostRuntime) -> ExitCode {
     let mut sink = StdoutSink::new(rt.stdout());
     let mut shelf = FolderShelf::new(&rt);
     let status = match words(&rt) {
-        Ok(words) => answer(rt.alloc(), &words, &mut source, &mut sink, &mut shelf),
+        Ok(words) => serve(rt.alloc(), &words, &mut source, &mut sink, &mut shelf).unwrap_or(
+            starved(&words),
+        ),
         Err(error) => status_of(&error),
     };
     if status == Status::Usage {
@@ -40,23 +47,60 @@ fn words(rt: &HostRuntime) -> io::Result<Vec<String>> {
         .map_err(io::Error::from)
 }
 
-/// Answers the script that the source gives, for these words of the command line.
-fn answer<S: Source, K: Sink, F: Shelf>(
+/// How many characters the mappers that cut values keep at most.
+const MOST_KEPT: u32 = 3;
+
+/// Answers the script with a shop of regular expressions and every mapper of the program.
+fn serve<S: Source, K: Sink, F: Shelf>(
     alloc: Global,
     words: &[String],
     source: &mut S,
     sink: &mut K,
     shelf: &mut F,
-) -> Status
-    ensures ends { EndsAs result
-        (outside (S.left source.old) (S.faults source.old) (K.held sink.old) (K.faults sink.old) (F.files shelf.old) (F.failed shelf.old))
-        (outside (S.left source.new) (S.faults source.new) (K.held sink.new) (K.faults sink.new) (F.files shelf.new) (F.failed shelf.new)) }
-    ensures faults { FaultsAs result
-        (outside (S.left source.old) (S.faults source.old) (K.held sink.old) (K.faults sink.old) (F.files shelf.old) (F.failed shelf.old))
-        (outside (S.left source.new) (S.faults source.new) (K.held sink.new) (K.faults sink.new) (F.files shelf.new) (F.failed shelf.new)) }
+) -> Result<Status, NoMemory>
+    ensures usage { IfOk result (λ status. (status ≡ Status.Usage) ↔ (AreGood words.now → ⊥)) }
+{
+    let mut mappers: Vec<Box<dyn Mapper>> = Vec::new(alloc);
+    mappers.push(Box::new(alloc, Fold::new(alloc)?)?)?;
+    for n in 1..=MOST_KEPT {
+        mappers.push(Box::new(alloc, Prefix::new(alloc, n)?)?)?;
+        mappers.push(Box::new(alloc, Suffix::new(alloc, n)?)?)?;
+    }
+    let mut shop = RegexShop::new(alloc);
+    Ok(answer(alloc, words, source, sink, shelf, &mut shop, mappers))
+}
+
+/// How a run ends that finds no memory for the mappers.
+fn starved(words: &[String]) -> Status
+    ensures starved { AreGood words.now → result ≡ Status.NoMemory }
     ensures usage { (result ≡ Status.Usage) ↔ (AreGood words.now → ⊥) }
 {
-    run(alloc, words, source, sink, shelf)
+    if words.is_empty() {
+        Status::NoMemory
+    } else {
+        Status::Usage
+    }
+}
+
+/// Answers the script that the source gives, for these words of the command line, where this shop makes the patterns and these mappers are at hand.
+fn answer<M: Mapper, S: Source, K: Sink, F: Shelf, P: PatternShop>(
+    alloc: Global,
+    words: &[String],
+    source: &mut S,
+    sink: &mut K,
+    shelf: &mut F,
+    shop: &mut P,
+    mappers: Vec<M>,
+) -> Status
+    ensures ends { EndsAs (setting_of (named M.called M.image mappers.items)) result
+        (outside (S.left source.old) (S.faults source.old) (K.held sink.old) (K.faults sink.old) (F.files shelf.old) (F.failed shelf.old) (P.refused shop.old))
+        (outside (S.left source.new) (S.faults source.new) (K.held sink.new) (K.faults sink.new) (F.files shelf.new) (F.failed shelf.new) (P.refused shop.new)) }
+    ensures faults { FaultsAs result
+        (outside (S.left source.old) (S.faults source.old) (K.held sink.old) (K.faults sink.old) (F.files shelf.old) (F.failed shelf.old) (P.refused shop.old))
+        (outside (S.left source.new) (S.faults source.new) (K.held sink.new) (K.faults sink.new) (F.files shelf.new) (F.failed shelf.new) (P.refused shop.new)) }
+    ensures usage { (result ≡ Status.Usage) ↔ (AreGood words.now → ⊥) }
+{
+    run(alloc, words, source, sink, shelf, shop, mappers)
 }
 
 /// The status where the words cannot be had: those that are no text are not good.

@@ -1,6 +1,8 @@
 -- What the replies to `text` and `add` mean.
-use Rattle.std.proofs.Common.{◌≡◌, ◌⊎◌, inl, inr, ℕ, Bool, List, None, [], ◌∷◌, ◌++◌, length, refl, sym, ◌∙◌, ap, subst, codes, append-nil}
+use Rattle.std.proofs.Common.{◌≡◌, ◌⊎◌, inl, inr, ℕ, Bool, List, None, [], ◌∷◌, ◌++◌, length, map, take, refl, sym, ◌∙◌, ap, subst, codes, append-nil}
 use Rattle.std.specs.Fmt.{decimal}
+use Rattle.std.proofs.Math.Seq.{take-append_seam}
+use Rattle.std.proofs.lemmas.List.{length-map}
 use Rattle.std.specs.List.{flat_map}
 use Rattle.mt_text_spec.specs.Lines.{closed}
 use Rattle.mt_text_spec.specs.Registries.{Registry, ValidRegistry}
@@ -10,6 +12,10 @@ use Rattle.mt_file_spec.specs.Vertical.{Vertical, FirstTextFault, TextCause}
 use Rattle.mt_vertical.specs.TextLaws.{OneText, NoTextWithFault}
 use Rattle.mt_script_spec.specs.Commands.{Text as TextCommand, Add}
 use Rattle.mt_session_spec.specs.World.{Held, World, Group, ValidHeld, Holds, IsFull, with_text, alone}
+use Rattle.mt_corpus_spec.specs.Images.{Corpus, AreImagesBy}
+use Rattle.mt_corpus.specs.Keeping.{AgreeWith}
+use Rattle.mt_segment.specs.Mappers.{AreThere, named}
+use Rattle.mt_session_spec.specs.Settings.{Setting, images_of}
 use Rattle.mt_session_spec.specs.Gains.{Gained, none_gained}
 use Rattle.mt_session_spec.specs.Refusals.{NameTaken, NoSuchFile, FileTooLong, BadVertical, CorpusFull, refusal_line, failure_line, no_memory_line}
 use Rattle.mt_session_spec.specs.Checks.{Check, Passes, NoneStands}
@@ -22,7 +28,8 @@ use Rattle.mt_session_spec.specs.Steps.{StepBy, Meant, Excepted, Declined, Accep
 use Rattle.mt_answer.specs.declared.reply.Reply.{Reply}
 use Rattle.mt_answer.specs.declared.reply.Reply.TheVariants.{Lines, NoMemory}
 use Rattle.mt_answer.specs.Replies.{SaysLines, SaysNoMemory, Given}
-use Rattle.mt_shell.specs.Answers.{Answers, AnswersAlone, Keeps, NoRoom, Kept, KeptNot, Takes, Faulty, Sound, TakenNot, KeepsText, ReadsText, over}
+use Rattle.mt_shell.specs.Serves.{Kept, Serves, kept}
+use Rattle.mt_shell.specs.Answers.{Answers, AnswersAlone, Keeps, NoRoom, Kept as KeptText, KeptNot, Takes, Faulty, Sound, TakenNot, KeepsText, ReadsText, over}
 use Rattle.mt_shell.proofs.Meanings.{declined, kept_from, starved, no_cause, first_behind, none_both}
 use Rattle.mt_shell.proofs.Shelves.{same_bytes, not_absent, file_is_there, at_file}
 
@@ -60,7 +67,7 @@ keeps_by laws held files name bytes front Given Loads gained text answer new val
       no_fault laws held name bytes Given text valid is v,
       inl (record { is = refl; there = record { bytes = bytes; given = is.given; text = text; read = v; full = full } }),
     ))))
-keeps_by laws held files name bytes front Given Loads gained text answer new valid none is v (Kept room) =
+keeps_by laws held files name bytes front Given Loads gained text answer new valid none is v (KeptText room) =
     Meant (over (with_text held text) files) (answers.Lines ((codes "ok " ++ decimal (length text.tokens)) ∷ [])) (Accepted (over (with_text held text) files) (answers.Lines ((codes "ok " ++ decimal (length text.tokens)) ∷ []))
     (none_both front (text_checks held name Given) none (
       no_fault laws held name bytes Given text valid is v,
@@ -83,13 +90,13 @@ name_free held name free = (no_cause free, tt)
 
 -- ## `text`
 
-pub text_taken : (held : Held) (name body : List ℕ) (reply : Reply) → Holds held name → Given (answers.Refused (refusal_line (NameTaken name))) reply → AnswersAlone held (TextCommand name body) reply held
-text_taken held name body reply h g files =
+pub text_taken : (setting : Setting) (held : Held) (name body : List ℕ) (reply : Reply) → Holds held name → Given (answers.Refused (refusal_line (NameTaken name))) reply → AnswersAlone setting held (TextCommand name body) reply held
+text_taken setting held name body reply h g files =
     declined (texting (over held files) name body) (over held files) none_gained (NameTaken name) reply (inl (record { is = refl; there = h })) Starved g
 
-pub text_read : (laws : Readings) (held new : Held) (name body : List ℕ) (reply : Reply) → ValidRegistry held.registry → (Holds held name → ⊥) → ReadsText held name body reply new →
-    AnswersAlone held (TextCommand name body) reply new
-text_read laws held new name body reply valid free r files = record {
+pub text_read : (laws : Readings) (setting : Setting) (held new : Held) (name body : List ℕ) (reply : Reply) → ValidRegistry held.registry → (Holds held name → ⊥) → ReadsText held name body reply new →
+    AnswersAlone setting held (TextCommand name body) reply new
+text_read laws setting held new name body reply valid free r files = record {
   answer = r.answer;
   says = r.says;
   holds = takes_by laws held files name body (name_checks held name) (λ bytes. bytes ≡ body) LoadsNone none_gained r.answer new valid (name_free held name free)
@@ -98,34 +105,34 @@ text_read laws held new name body reply valid free r files = record {
 
 -- ## `add`
 
-pub add_taken : (held : Held) (name file : List ℕ) (reply : Reply) → Holds held name → Given (answers.Refused (refusal_line (NameTaken name))) reply → AnswersAlone held (Add name file) reply held
-add_taken held name file reply h g files =
+pub add_taken : (setting : Setting) (held : Held) (name file : List ℕ) (reply : Reply) → Holds held name → Given (answers.Refused (refusal_line (NameTaken name))) reply → AnswersAlone setting held (Add name file) reply held
+add_taken setting held name file reply h g files =
     declined (adding (over held files) name file) (over held files) none_gained (NameTaken name) reply (inl (record { is = refl; there = h })) Starved g
 
-pub add_absent : (held : Held) (name file : List ℕ) (reply : Reply) (files : Files) → (Holds held name → ⊥) → IsAbsent files file → Given (answers.Refused (refusal_line (NoSuchFile file))) reply →
-    Answers (over held files) (Add name file) none_gained reply (over held files)
-add_absent held name file reply files free a g =
+pub add_absent : (setting : Setting) (held : Held) (name file : List ℕ) (reply : Reply) (files : Files) → (Holds held name → ⊥) → IsAbsent files file → Given (answers.Refused (refusal_line (NoSuchFile file))) reply →
+    Answers setting (over held files) (Add name file) none_gained reply (over held files)
+add_absent setting held name file reply files free a g =
     declined (adding (over held files) name file) (over held files) none_gained (NoSuchFile file) reply (inr (no_cause free, inl (record { is = refl; there = a }))) Starved g
 
-pub add_too_long : (held : Held) (name file : List ℕ) (reply : Reply) (files : Files) → (Holds held name → ⊥) → IsTooLong files file → Given (answers.Refused (refusal_line (FileTooLong file))) reply →
-    Answers (over held files) (Add name file) none_gained reply (over held files)
-add_too_long held name file reply files free t g =
+pub add_too_long : (setting : Setting) (held : Held) (name file : List ℕ) (reply : Reply) (files : Files) → (Holds held name → ⊥) → IsTooLong files file → Given (answers.Refused (refusal_line (FileTooLong file))) reply →
+    Answers setting (over held files) (Add name file) none_gained reply (over held files)
+add_too_long setting held name file reply files free t g =
     declined (adding (over held files) name file) (over held files) none_gained (FileTooLong file) reply
     (inr (no_cause free, inr (no_cause (not_absent files file t.bytes t.found), inl (record { is = refl; there = t })))) Starved g
 
-pub add_failed : (held : Held) (name file : List ℕ) (reply : Reply) (files : Files) → (Holds held name → ⊥) → Given (answers.Refused (failure_line file)) reply →
-    Answers (over held files) (Add name file) (record { failed = file ∷ []; refused = [] }) reply (over held files)
-add_failed held name file reply files free g =
+pub add_failed : (setting : Setting) (held : Held) (name file : List ℕ) (reply : Reply) (files : Files) → (Holds held name → ⊥) → Given (answers.Refused (failure_line file)) reply →
+    Answers setting (over held files) (Add name file) (record { failed = file ∷ []; refused = [] }) reply (over held files)
+add_failed setting held name file reply files free g =
     let gained : Gained = record { failed = file ∷ []; refused = [] } in
     kept_from (adding (over held files) name file) (over held files) gained file reply
     (Blocked file (record { is = refl; reached = name_free held name free }) (at_file file)) Starved g
 
-pub add_starved : (held : Held) (name file : List ℕ) (files : Files) (gained : Gained) → Answers (over held files) (Add name file) gained NoMemory (over held files)
-add_starved held name file files gained = starved (adding (over held files) name file) (over held files) gained Starved
+pub add_starved : (setting : Setting) (held : Held) (name file : List ℕ) (files : Files) (gained : Gained) → Answers setting (over held files) (Add name file) gained NoMemory (over held files)
+add_starved setting held name file files gained = starved (adding (over held files) name file) (over held files) gained Starved
 
-pub add_read : (laws : Readings) (held new : Held) (name file bytes : List ℕ) (reply : Reply) (files : Files) → ValidRegistry held.registry → (Holds held name → ⊥) → IsFile files file bytes →
-    ReadsText held name bytes reply new → Answers (over held files) (Add name file) none_gained reply (over new files)
-add_read laws held new name file bytes reply files valid free f r = record {
+pub add_read : (laws : Readings) (setting : Setting) (held new : Held) (name file bytes : List ℕ) (reply : Reply) (files : Files) → ValidRegistry held.registry → (Holds held name → ⊥) → IsFile files file bytes →
+    ReadsText held name bytes reply new → Answers setting (over held files) (Add name file) none_gained reply (over new files)
+add_read laws setting held new name file bytes reply files valid free f r = record {
   answer = r.answer;
   says = r.says;
   holds = takes_by laws held files name bytes (name_checks held name ++ file_checks files file) (IsFile files file) (LoadsBehind (name_checks held name) file) none_gained r.answer new valid
@@ -155,10 +162,12 @@ no_room held text reply f g = record { answer = g.answer; says = g.says; holds =
     by answer (inl e) = rw e (NoRoom f)
     by answer (inr e) = rw e KeptNot
 
--- the text is behind the others
-text_changed : (held : Held) (registry : Registry) (accepted : Bool) (groups more : List Group) (text : Text) → (record { registry = registry; accepted = accepted; grammar = None; groups = groups }) ≡ held →
-    more ≡ groups ++ alone text ∷ [] → (record { registry = registry; accepted = accepted; grammar = None; groups = more }) ≡ with_text held text
-text_changed held registry accepted groups more text v m = rw m (ap (λ (h : Held). with_text h text) v)
+-- a corpus with a text more
+text_changed : (state : Kept) (accepted : Bool) (corpus more : Corpus) (text : Text) → kept accepted corpus ≡ state → more.registry ≡ corpus.registry → more.groups ≡ corpus.groups ++ alone text ∷ [] →
+    (kept accepted more).held ≡ with_text state.held text
+text_changed state accepted corpus more text v r m =
+    let held : Registry → List Group → Held = λ registry groups. record { registry = registry; accepted = accepted; grammar = None; groups = groups } in
+    ap (λ registry. held registry more.groups) r ∙ ap (λ groups. held corpus.registry groups) m ∙ ap (λ (k : Kept). with_text k.held text) v
 
 one_line : (line : List ℕ) → flat_map closed (line ∷ []) ≡ closed line
 one_line line = append-nil (closed line)
@@ -166,28 +175,63 @@ one_line line = append-nil (closed line)
 pub line_is : (tokens : ℕ) (text : Text) (line : List ℕ) → line ≡ closed (codes "ok" ++ 32 ∷ decimal tokens) → tokens ≡ length text.tokens → line ≡ closed (codes "ok" ++ 32 ∷ decimal (length text.tokens))
 line_is tokens text line e n = e ∙ ap (λ (k : ℕ). closed (codes "ok" ++ 32 ∷ decimal k)) n
 
-pub kept : (held : Held) (registry : Registry) (accepted : Bool) (groups more : List Group) (text : Text) (tokens : ℕ) (line : List ℕ) (reply : Reply) →
-    (record { registry = registry; accepted = accepted; grammar = None; groups = groups }) ≡ held → tokens ≡ length text.tokens → (IsFull groups tokens → ⊥) → more ≡ groups ++ alone text ∷ [] →
-    line ≡ closed (codes "ok" ++ 32 ∷ decimal (length text.tokens)) → reply ≡ Lines line → KeepsText held text reply (record { registry = registry; accepted = accepted; grammar = None; groups = more })
-kept held registry accepted groups more text tokens line reply v n room m e r = record {
+room_for : (state : Kept) (accepted : Bool) (corpus : Corpus) (text : Text) (tokens : ℕ) → kept accepted corpus ≡ state → tokens ≡ length text.tokens → (IsFull corpus.groups tokens → ⊥) → IsFull state.held.groups (length text.tokens) → ⊥
+room_for state accepted corpus text tokens v n room = subst (λ (k : Kept). IsFull k.held.groups (length text.tokens) → ⊥) v (rw n at room)
+
+pub text_kept : (state : Kept) (accepted : Bool) (corpus more : Corpus) (text : Text) (tokens : ℕ) (line : List ℕ) (reply : Reply) → kept accepted corpus ≡ state → tokens ≡ length text.tokens → (IsFull corpus.groups tokens → ⊥) →
+    more.registry ≡ corpus.registry → more.groups ≡ corpus.groups ++ alone text ∷ [] → line ≡ closed (codes "ok" ++ 32 ∷ decimal (length text.tokens)) → reply ≡ Lines line →
+    KeepsText state.held text reply (kept accepted more).held
+text_kept state accepted corpus more text tokens line reply v n room r m e is = record {
   answer = answers.Lines ((codes "ok " ++ decimal (length text.tokens)) ∷ []);
-  says = rw r (SaysLines line ((codes "ok " ++ decimal (length text.tokens)) ∷ []) (e ∙ sym (one_line (codes "ok " ++ decimal (length text.tokens)))));
-  holds = rw (text_changed held registry accepted groups more text v m) (Kept (subst (λ (h : Held). IsFull h.groups (length text.tokens) → ⊥) v (rw n at room)));
+  says = rw is (SaysLines line ((codes "ok " ++ decimal (length text.tokens)) ∷ []) (e ∙ sym (one_line (codes "ok " ++ decimal (length text.tokens)))));
+  holds = rw (text_changed state accepted corpus more text v r m) (KeptText (room_for state accepted corpus text tokens v n room));
 }
 
 pub kept_not : (held : Held) (text : Text) → KeepsText held text NoMemory held
 kept_not held text = record { answer = answers.Refused no_memory_line; says = SaysNoMemory; holds = KeptNot }
 
-pub kept_no_more : (held : Held) (registry : Registry) (accepted : Bool) (groups more : List Group) (text : Text) (reply : Reply) →
-    (record { registry = registry; accepted = accepted; grammar = None; groups = groups }) ≡ held → more ≡ groups → reply ≡ NoMemory →
-    KeepsText held text reply (record { registry = registry; accepted = accepted; grammar = None; groups = more })
-kept_no_more held registry accepted groups more text reply v m r = rw (m, v, r) (kept_not held text)
+pub kept_no_more : (state : Kept) (accepted : Bool) (corpus more : Corpus) (text : Text) (reply : Reply) → kept accepted corpus ≡ state → more ≡ corpus → reply ≡ NoMemory → KeepsText state.held text reply (kept accepted more).held
+kept_no_more state accepted corpus more text reply v m r =
+    subst (λ (held : Held). KeepsText state.held text reply held) (sym (ap (λ (c : Corpus). (kept accepted c).held) m ∙ ap (λ (k : Kept). k.held) v)) (rw r (kept_not state.held text))
 
 -- what is held is valid with it
-pub kept_valid : (laws : HeldIsValid) (held : Held) (registry : Registry) (accepted : Bool) (groups more : List Group) (text : Text) (tokens : ℕ) →
-    (record { registry = registry; accepted = accepted; grammar = None; groups = groups }) ≡ held → ValidHeld (record { registry = registry; accepted = accepted; grammar = None; groups = groups }) →
-    ValidText held.registry text → (Holds held text.name → ⊥) → tokens ≡ length text.tokens → (IsFull groups tokens → ⊥) → more ≡ groups ++ alone text ∷ [] →
-    ValidHeld (record { registry = registry; accepted = accepted; grammar = None; groups = more })
-kept_valid laws held registry accepted groups more text tokens v valid one free n room m =
-    rw (text_changed held registry accepted groups more text v m)
-    (laws.text held text (subst ValidHeld v valid) one free (subst (λ (h : Held). IsFull h.groups (length text.tokens) → ⊥) v (rw n at room)))
+pub kept_valid : (laws : HeldIsValid) (state : Kept) (accepted : Bool) (corpus more : Corpus) (text : Text) (tokens : ℕ) → kept accepted corpus ≡ state → ValidHeld (kept accepted corpus).held →
+    ValidText state.held.registry text → (Holds state.held text.name → ⊥) → tokens ≡ length text.tokens → (IsFull corpus.groups tokens → ⊥) → more.registry ≡ corpus.registry → more.groups ≡ corpus.groups ++ alone text ∷ [] →
+    ValidHeld (kept accepted more).held
+kept_valid laws state accepted corpus more text tokens v valid one free n room r m =
+    rw (text_changed state accepted corpus more text v r m)
+    (laws.text state.held text (subst (λ (k : Kept). ValidHeld k.held) v valid) one free (room_for state accepted corpus text tokens v n room))
+
+-- the same mappers serve it
+pub serves_more : (setting : Setting) (mappers others : List (List ℕ × (List ℕ → List ℕ))) (state : Kept) (accepted : Bool) (corpus more : Corpus) → kept accepted corpus ≡ state → others ≡ mappers → more.registry ≡ corpus.registry →
+    (((images : List ℕ → List ℕ → List ℕ) → AgreeWith images mappers corpus.registry → AreImagesBy images corpus.taken → AreImagesBy images more.taken)) → Serves setting mappers state → Serves setting others (kept accepted more)
+serves_more setting mappers others state accepted corpus more v o r taken s =
+    let t : Serves setting mappers (kept accepted corpus) = subst (λ (k : Kept). Serves setting mappers k) (sym v) s in
+    record {
+      all = λ e. o ∙ t.all e;
+      there = rw (o, r) t.there;
+      agree = rw (o, r) t.agree;
+      taken = taken (images_of setting) t.agree t.taken;
+    }
+
+pub serves_same : (setting : Setting) (mappers others : List (List ℕ × (List ℕ → List ℕ))) (state : Kept) (accepted : Bool) (corpus more : Corpus) → kept accepted corpus ≡ state → others ≡ mappers → more ≡ corpus →
+    Serves setting mappers state → Serves setting others (kept accepted more)
+serves_same setting mappers others state accepted corpus more v o m s = rw (o, m, v) s
+
+pub called_named : {M : Type 0} (called : M → List ℕ) (image : M → List ℕ → List ℕ) (mappers : List M) → map (λ mapper. mapper.0) (named called image mappers) ≡ map called mappers
+called_named called image [] = refl
+called_named called image (mapper ∷ mappers) = ap (λ (names : List (List ℕ)). called mapper ∷ names) (called_named called image mappers)
+
+pub mappers_there : {M : Type 0} (called : M → List ℕ) (image : M → List ℕ → List ℕ) (mappers : List M) (setting : Setting) (state : Kept) (accepted : Bool) (corpus : Corpus) → kept accepted corpus ≡ state →
+    Serves setting (named called image mappers) state → AreThere (map called mappers) corpus.registry.attrs
+mappers_there called image mappers setting state accepted corpus v s =
+    let t = subst (λ (k : Kept). Serves setting (named called image mappers) k) (sym v) s in
+    rw (called_named called image mappers) at t.there
+
+-- a slice of mappers that was lent and is given back
+pub mappers_back : {M : Type 0} (called : M → List ℕ) (image : M → List ℕ → List ℕ) (old new rest : List M) (len : ℕ) → length old ≡ len → named called image new ≡ named called image old →
+    named called image (take len (new ++ rest)) ≡ named called image old
+mappers_back {M = M} called image old new rest len l e =
+    let pair : M → List ℕ × (List ℕ → List ℕ) = λ mapper. (called mapper, image mapper) in
+    let same : length new ≡ length old = sym (length-map new pair) ∙ ap length e ∙ length-map old pair in
+    ap (λ (n : ℕ). named called image (take n (new ++ rest))) (sym (same ∙ l)) ∙ ap (named called image) (take-append_seam new rest) ∙ e

@@ -8,7 +8,7 @@ use Rattle.mt_outside.specs.Faults.{Rose}
 use Rattle.mt_script_spec.specs.Commands.{Quit}
 use Rattle.mt_script_spec.specs.Script.{Given, Nothing, IsRest}
 use Rattle.mt_session_spec.specs.World.{Held, first_held}
-use Rattle.mt_session_spec.specs.Settings.{bare_setting}
+use Rattle.mt_session_spec.specs.Settings.{Setting}
 use Rattle.mt_session_spec.specs.Gains.{Gained, none_gained, gained_then}
 use Rattle.mt_session_spec.specs.Replies.{NoReplies, first_known}
 use Rattle.mt_session_spec.specs.Answers.{output_of}
@@ -18,7 +18,7 @@ use Rattle.mt_shell.specs.declared.top.Status.TheVariants.{Done, Usage, SourceFa
 use Rattle.mt_outside.specs.declared.sink.SinkError.{SinkError}
 use Rattle.mt_outside.specs.declared.sink.SinkError.TheVariants.{Failed, NoMemory as Starved}
 use Rattle.mt_shell.specs.declared.talk.Flow.{Flow}
-use Rattle.mt_shell.specs.Outsides.{reads_on, known, SameSource, NoFaults, CountsSink}
+use Rattle.mt_shell.specs.Outsides.{beside, reads_on, known, SameSource, NoFaults, CountsSink}
 use Rattle.mt_shell.specs.Reads.{Progress, ProgressToQuit, ProgressInPart}
 use Rattle.mt_shell.specs.Ends.{Took, ReadsOn, FinishesAs, FinishCounts, EndsAs, FaultsAs, WhereTold, IsLong}
 use Rattle.mt_shell.proofs.Runs.{nothing_yet, none_quits, then_begins, later, joined, none_quit, before_last, none_yet, grows, ends, outputs, in_part_behind}
@@ -28,8 +28,8 @@ use Rattle.mt_shell.proofs.Runs.{nothing_yet, none_quits, then_begins, later, jo
 pub no_line : IsRest false []
 no_line = inl (All-nil (λ b. b ≢ 10))
 
-pub at_first : (input written wait : List ℕ) (held : Held) (start : Outside) → start.left ≡ Some input → start.written ≡ Some written → wait ≡ [] → held ≡ first_held →
-    ReadsOn input 0 wait held start written start
+pub at_first : {setting : Setting} → (input written wait : List ℕ) (held : Held) (start : Outside) → start.left ≡ Some input → start.written ≡ Some written → wait ≡ [] → held ≡ first_held →
+    ReadsOn setting input 0 wait held start written start
 at_first input written wait held start l k w h =
     rw (w, h) (record { front = []; back = input; are = refl; rest = l; count = refl; progress = none_yet [] first_held start written k })
 
@@ -67,8 +67,8 @@ leaves_on start at mid written output gained e l = record {
   refused = ap (λ (o : Outside). o.refused) e ∙ l.refused;
 }
 
-answered_on : (bytes wait : List ℕ) (held : Held) (start at mid : Outside) (written : List ℕ) → mid ≡ reads_on at mid → Progress false bytes wait first_held held start written at →
-    Progress false bytes wait first_held held start written mid
+answered_on : {setting : Setting} → (bytes wait : List ℕ) (held : Held) (start at mid : Outside) (written : List ℕ) → mid ≡ reads_on at mid → Progress setting false bytes wait first_held held start written at →
+    Progress setting false bytes wait first_held held start written mid
 answered_on bytes wait held start at mid written e p =
     let same : known held at ≡ known held mid = ap (λ (o : Outside). known held o) (sym e) in
     record {
@@ -82,16 +82,16 @@ answered_on bytes wait held start at mid written e p =
     }
 
 -- what was answered up to a read that brought this piece
-record Brought (input piece : List ℕ) (more : ℕ) (wait : List ℕ) (held : Held) (start : Outside) (written : List ℕ) (mid : Outside) : Type 0 where
+record Brought (setting : Setting) (input piece : List ℕ) (more : ℕ) (wait : List ℕ) (held : Held) (start : Outside) (written : List ℕ) (mid : Outside) : Type 0 where
   pub front : List ℕ
   pub back : List ℕ
   pub are : input ≡ (front ++ piece) ++ back
   pub rest : mid.left ≡ Some back
   pub count : length (front ++ piece) ≡ more
-  pub progress : Progress false front wait first_held held start written mid
+  pub progress : Progress setting false front wait first_held held start written mid
 
-brought : (input buf piece wait : List ℕ) (n taken : ℕ) (held : Held) (start at mid : Outside) (written : List ℕ) → ReadsOn input taken wait held start written at → mid ≡ reads_on at mid →
-    Told at.left (λ all. Takes all n buf mid.left) → piece ≡ take n buf → Brought input piece (taken + n) wait held start written mid
+brought : {setting : Setting} → (input buf piece wait : List ℕ) (n taken : ℕ) (held : Held) (start at mid : Outside) (written : List ℕ) → ReadsOn setting input taken wait held start written at → mid ≡ reads_on at mid →
+    Told at.left (λ all. Takes all n buf mid.left) → piece ≡ take n buf → Brought setting input piece (taken + n) wait held start written mid
 brought input buf piece wait n taken held start at mid written r e told p =
     let k = told r.back r.rest in
     let is : piece ≡ take n r.back = p ∙ k.front in
@@ -105,10 +105,10 @@ brought input buf piece wait n taken held start at mid written r e told p =
     }
 
 -- no `quit` was read before the last read
-none_before : (front wait : List ℕ) (held : Held) (start at : Outside) (written : List ℕ) → Progress false front wait first_held held start written at → IsRest false wait → HoldsNoQuit front
+none_before : {setting : Setting} → (front wait : List ℕ) (held : Held) (start at : Outside) (written : List ℕ) → Progress setting false front wait first_held held start written at → IsRest false wait → HoldsNoQuit front
 none_before front wait held start at written p rest = record { items = p.items; rest = wait; read = record { begins = p.taken; rests = rest }; no_quit = p.no_quit }
 
-took_piece : {input piece : List ℕ} → {more : ℕ} → {wait : List ℕ} → {held : Held} → {start : Outside} → {written : List ℕ} → {mid : Outside} → (end : Outside) → (b : Brought input piece more wait held start written mid) →
+took_piece : {setting : Setting} → {input piece : List ℕ} → {more : ℕ} → {wait : List ℕ} → {held : Held} → {start : Outside} → {written : List ℕ} → {mid : Outside} → (end : Outside) → (b : Brought setting input piece more wait held start written mid) →
     end.left ≡ mid.left → more ≤ script_bytes_limit → Taken input (b.front ++ piece) false end
 took_piece {input} {piece} {more} end b s low = record {
   back = b.back;
@@ -118,7 +118,7 @@ took_piece {input} {piece} {more} end b s low = record {
   short = let count : length (b.front ++ piece) ≡ more = b.count in omega arith;
 }
 
-last_read : {input piece : List ℕ} → {more : ℕ} → {wait : List ℕ} → {held : Held} → {start : Outside} → {written : List ℕ} → {mid : Outside} → (b : Brought input piece more wait held start written mid) → IsRest false wait →
+last_read : {setting : Setting} → {input piece : List ℕ} → {more : ℕ} → {wait : List ℕ} → {held : Held} → {start : Outside} → {written : List ℕ} → {mid : Outside} → (b : Brought setting input piece more wait held start written mid) → IsRest false wait →
     length piece ≤ block_bytes_limit → IsLastRead (b.front ++ piece)
 last_read {input} {piece} {more} {wait} {held} {start} {written} {mid} b rest one = record {
   before = b.front;
@@ -130,8 +130,8 @@ last_read {input} {piece} {more} {wait} {held} {start} {written} {mid} b rest on
 
 -- ## One part after another
 
-and_then : (front wait piece still : List ℕ) (held new : Held) (start mid end : Outside) (written : List ℕ) → Progress false front wait first_held held start written mid →
-    Told mid.written (λ w. Progress false (wait ++ piece) still held new mid w end) → Progress false (front ++ piece) still first_held new start written end
+and_then : {setting : Setting} → (front wait piece still : List ℕ) (held new : Held) (start mid end : Outside) (written : List ℕ) → Progress setting false front wait first_held held start written mid →
+    Told mid.written (λ w. Progress setting false (wait ++ piece) still held new mid w end) → Progress setting false (front ++ piece) still first_held new start written end
 and_then front wait piece still held new start mid end written p told =
     let q = told (written ++ output_of p.answers) p.leaves.held in
     record {
@@ -144,9 +144,9 @@ and_then front wait piece still held new start mid end written p told =
       leaves = rw (outputs p.answers q.answers) (later start written (output_of p.answers) mid.files p.gained mid (output_of q.answers) end.files q.gained end p.leaves q.leaves);
     }
 
-pub read_on : (input buf piece wait still : List ℕ) (n taken more : ℕ) (held new : Held) (start at mid end : Outside) (written : List ℕ) → ReadsOn input taken wait held start written at → mid ≡ reads_on at mid →
-    Told at.left (λ all. Takes all n buf mid.left) → piece ≡ take n buf → Told mid.written (λ w. Progress false (wait ++ piece) still held new mid w end) → end.left ≡ mid.left → more ≡ taken + n →
-    ReadsOn input more still new start written end
+pub read_on : {setting : Setting} → (input buf piece wait still : List ℕ) (n taken more : ℕ) (held new : Held) (start at mid end : Outside) (written : List ℕ) → ReadsOn setting input taken wait held start written at → mid ≡ reads_on at mid →
+    Told at.left (λ all. Takes all n buf mid.left) → piece ≡ take n buf → Told mid.written (λ w. Progress setting false (wait ++ piece) still held new mid w end) → end.left ≡ mid.left → more ≡ taken + n →
+    ReadsOn setting input more still new start written end
 read_on input buf piece wait still n taken more held new start at mid end written r e told p on s m =
     let b = brought input buf piece wait n taken held start at mid written r e told p in
     record {
@@ -161,9 +161,9 @@ read_on input buf piece wait still n taken more held new start at mid end writte
 -- ## Ends
 
 -- in part, after a piece more
-pub ends_in_part : (input buf piece wait : List ℕ) (n taken : ℕ) (held : Held) (start at mid end : Outside) (written : List ℕ) → ReadsOn input taken wait held start written at → IsRest false wait → mid ≡ reads_on at mid →
+pub ends_in_part : {setting : Setting} → (input buf piece wait : List ℕ) (n taken : ℕ) (held : Held) (start at mid end : Outside) (written : List ℕ) → ReadsOn setting input taken wait held start written at → IsRest false wait → mid ≡ reads_on at mid →
     Told at.left (λ all. Takes all n buf mid.left) → piece ≡ take n buf → length piece ≤ block_bytes_limit → taken + n ≤ script_bytes_limit →
-    Told mid.written (λ w. ProgressInPart false (wait ++ piece) held mid w end) → end.left ≡ mid.left → EndsInPart bare_setting input start written end
+    Told mid.written (λ w. ProgressInPart setting false (wait ++ piece) held mid w end) → end.left ≡ mid.left → EndsInPart setting input start written end
 ends_in_part input buf piece wait n taken held start at mid end written r rest e told p one low on s =
     let b = brought input buf piece wait n taken held start at mid written r e told p in
     let f = b.progress in
@@ -189,9 +189,9 @@ ends_in_part input buf piece wait n taken held start at mid end written r rest e
     }
 
 -- at a `quit`, after a piece more
-pub ends_at_quit : (input buf piece wait : List ℕ) (n taken : ℕ) (held : Held) (start at mid end : Outside) (written : List ℕ) → ReadsOn input taken wait held start written at → IsRest false wait → mid ≡ reads_on at mid →
+pub ends_at_quit : {setting : Setting} → (input buf piece wait : List ℕ) (n taken : ℕ) (held : Held) (start at mid end : Outside) (written : List ℕ) → ReadsOn setting input taken wait held start written at → IsRest false wait → mid ≡ reads_on at mid →
     Told at.left (λ all. Takes all n buf mid.left) → piece ≡ take n buf → length piece ≤ block_bytes_limit → taken + n ≤ script_bytes_limit →
-    Told mid.written (λ w. ProgressToQuit false (wait ++ piece) held mid w end) → end.left ≡ mid.left → EndsWell bare_setting input start written end
+    Told mid.written (λ w. ProgressToQuit setting false (wait ++ piece) held mid w end) → end.left ≡ mid.left → EndsWell setting input start written end
 ends_at_quit input buf piece wait n taken held start at mid end written r rest e told p one low on s =
     let b = brought input buf piece wait n taken held start at mid written r e told p in
     let f = b.progress in
@@ -215,8 +215,8 @@ ends_at_quit input buf piece wait n taken held start at mid end written r rest e
     })
 
 -- a fault of the source
-pub ends_with_fault : (input wait : List ℕ) (taken : ℕ) (held : Held) (start at mid : Outside) (written : List ℕ) → ReadsOn input taken wait held start written at → IsRest false wait →
-    taken ≤ script_bytes_limit → mid ≡ reads_on at mid → mid.left ≡ at.left → EndsWithFault bare_setting input start written mid
+pub ends_with_fault : {setting : Setting} → (input wait : List ℕ) (taken : ℕ) (held : Held) (start at mid : Outside) (written : List ℕ) → ReadsOn setting input taken wait held start written at → IsRest false wait →
+    taken ≤ script_bytes_limit → mid ≡ reads_on at mid → mid.left ≡ at.left → EndsWithFault setting input start written mid
 ends_with_fault input wait taken held start at mid written r rest low e same =
     let p = answered_on r.front wait held start at mid written e r.progress in
     let count : length r.front ≡ taken = r.count in
@@ -231,8 +231,8 @@ cut_one [] n ne low h = absurd (ne (omega arith))
 cut_one (b ∷ bs) n ne low h = let e : n ≡ 1 = omega arith in (b, rw e refl)
 
 -- one byte too many
-pub ends_too_long : (input buf wait : List ℕ) (n taken : ℕ) (held : Held) (start at mid : Outside) (written : List ℕ) → ReadsOn input taken wait held start written at → IsRest false wait →
-    taken ≡ script_bytes_limit → mid ≡ reads_on at mid → Told at.left (λ all. Takes all n buf mid.left) → n ≢ 0 → n ≤ 1 → EndsTooLong bare_setting input start written mid
+pub ends_too_long : {setting : Setting} → (input buf wait : List ℕ) (n taken : ℕ) (held : Held) (start at mid : Outside) (written : List ℕ) → ReadsOn setting input taken wait held start written at → IsRest false wait →
+    taken ≡ script_bytes_limit → mid ≡ reads_on at mid → Told at.left (λ all. Takes all n buf mid.left) → n ≢ 0 → n ≤ 1 → EndsTooLong setting input start written mid
 ends_too_long input buf wait n taken held start at mid written r rest full e told ne low =
     let p = answered_on r.front wait held start at mid written e r.progress in
     let k = told r.back r.rest in
@@ -263,14 +263,14 @@ at_end input front back e n = rw (e, n) (sym (append-nil front))
 whole_input : (input : List ℕ) (end : Outside) → end.left ≡ Some [] → length input ≤ script_bytes_limit → Taken input input true end
 whole_input input end l short = record { back = []; are = sym (append-nil input); rest = l; whole = λ yes. refl; short = short }
 
-last_of_all : (input wait : List ℕ) (held : Held) (start mid : Outside) (written : List ℕ) → Progress false input wait first_held held start written mid → IsRest false wait → IsLastRead input
+last_of_all : {setting : Setting} → (input wait : List ℕ) (held : Held) (start mid : Outside) (written : List ℕ) → Progress setting false input wait first_held held start written mid → IsRest false wait → IsLastRead input
 last_of_all input wait held start mid written p rest = record { before = input; piece = []; are = sym (append-nil input); one = omega arith; none = none_before input wait held start mid written p rest }
 
-well : (input wait : List ℕ) (held new : Held) (start mid end : Outside) (written : List ℕ) → end.left ≡ Some [] → length input ≤ script_bytes_limit → IsRest false wait → Progress false input wait first_held held start written mid →
-    Told mid.written (λ w. Progress true wait [] held new mid w end ⊎ ProgressToQuit true wait held mid w end) → EndsWell bare_setting input start written end
-well input wait held new start mid end written l short rest p told = by (told (written ++ output_of p.answers) p.leaves.held)
+well : {setting : Setting} → (input wait : List ℕ) (held new : Held) (start mid end : Outside) (written : List ℕ) → end.left ≡ Some [] → length input ≤ script_bytes_limit → IsRest false wait → Progress setting false input wait first_held held start written mid →
+    Told mid.written (λ w. Progress setting true wait [] held new mid w end ⊎ ProgressToQuit setting true wait held mid w end) → EndsWell setting input start written end
+well {setting = setting} input wait held new start mid end written l short rest p told = by (told (written ++ output_of p.answers) p.leaves.held)
   where
-    by : Progress true wait [] held new mid (written ++ output_of p.answers) end ⊎ ProgressToQuit true wait held mid (written ++ output_of p.answers) end → EndsWell bare_setting input start written end
+    by : Progress setting true wait [] held new mid (written ++ output_of p.answers) end ⊎ ProgressToQuit setting true wait held mid (written ++ output_of p.answers) end → EndsWell setting input start written end
     by (inl q) = inl (record {
       none_left = l;
       short = short;
@@ -304,8 +304,8 @@ well input wait held new start mid end written l short rest p told = by (told (w
       };
     })
 
-in_part : (input wait : List ℕ) (held : Held) (start mid end : Outside) (written : List ℕ) → end.left ≡ Some [] → length input ≤ script_bytes_limit → IsRest false wait → Progress false input wait first_held held start written mid →
-    Told mid.written (λ w. ProgressInPart true wait held mid w end) → EndsInPart bare_setting input start written end
+in_part : {setting : Setting} → (input wait : List ℕ) (held : Held) (start mid end : Outside) (written : List ℕ) → end.left ≡ Some [] → length input ≤ script_bytes_limit → IsRest false wait → Progress setting false input wait first_held held start written mid →
+    Told mid.written (λ w. ProgressInPart setting true wait held mid w end) → EndsInPart setting input start written end
 in_part input wait held start mid end written l short rest p told =
     let q = told (written ++ output_of p.answers) p.leaves.held in
     record {
@@ -329,16 +329,16 @@ in_part input wait held start mid end written l short rest p told =
     }
 
 -- the end of a run by its status, where this much was told
-abbrev pub EndsSo : Status → List ℕ → Outside → List ℕ → Outside → Type 0
-EndsSo Done input start written end = EndsWell bare_setting input start written end
-EndsSo Usage input start written end = ⊥
-EndsSo SourceFault input start written end = EndsWithFault bare_setting input start written end
-EndsSo SinkFault input start written end = EndsInPart bare_setting input start written end
-EndsSo ScriptTooLong input start written end = EndsTooLong bare_setting input start written end
-EndsSo NoMemory input start written end = EndsInPart bare_setting input start written end
+abbrev pub EndsSo : Setting → Status → List ℕ → Outside → List ℕ → Outside → Type 0
+EndsSo setting Done input start written end = EndsWell setting input start written end
+EndsSo setting Usage input start written end = ⊥
+EndsSo setting SourceFault input start written end = EndsWithFault setting input start written end
+EndsSo setting SinkFault input start written end = EndsInPart setting input start written end
+EndsSo setting ScriptTooLong input start written end = EndsTooLong setting input start written end
+EndsSo setting NoMemory input start written end = EndsInPart setting input start written end
 
-finished : (status : Status) (input wait : List ℕ) (held new : Held) (start mid end : Outside) (written : List ℕ) → end.left ≡ Some [] → length input ≤ script_bytes_limit → IsRest false wait →
-    Progress false input wait first_held held start written mid → Told mid.written (λ w. FinishesAs status wait held new mid w end) → EndsSo status input start written end
+finished : {setting : Setting} → (status : Status) (input wait : List ℕ) (held new : Held) (start mid end : Outside) (written : List ℕ) → end.left ≡ Some [] → length input ≤ script_bytes_limit → IsRest false wait →
+    Progress setting false input wait first_held held start written mid → Told mid.written (λ w. FinishesAs setting status wait held new mid w end) → EndsSo setting status input start written end
 finished Done input wait held new start mid end written l short rest p told = well input wait held new start mid end written l short rest p told
 finished Usage input wait held new start mid end written l short rest p told = absurd (told (written ++ output_of p.answers) p.leaves.held)
 finished SourceFault input wait held new start mid end written l short rest p told = absurd (told (written ++ output_of p.answers) p.leaves.held)
@@ -349,6 +349,14 @@ finished NoMemory input wait held new start mid end written l short rest p told 
 none_left : (n : ℕ) (back : List ℕ) → back ≡ [] → n ≡ 0 → drop n back ≡ []
 none_left n back e z = rw (e, z) refl
 
+pub finish_beside : (status : Status) (mid end : Outside) (before after : List (List ℕ)) → FinishCounts status mid end → FinishCounts status (beside mid before) (beside end after)
+finish_beside Done mid end before after c = (record { left = (c.0).left; faults = (c.0).faults }, c.1)
+finish_beside Usage mid end before after c = c
+finish_beside SourceFault mid end before after c = c
+finish_beside SinkFault mid end before after c = (record { left = (c.0).left; faults = (c.0).faults }, c.1)
+finish_beside ScriptTooLong mid end before after c = c
+finish_beside NoMemory mid end before after c = (record { left = (c.0).left; faults = (c.0).faults }, c.1)
+
 pub finish_same : (status : Status) (mid end : Outside) → FinishCounts status mid end → SameSource mid end
 finish_same Done mid end c = c.0
 finish_same Usage mid end c = absurd c
@@ -358,27 +366,27 @@ finish_same ScriptTooLong mid end c = absurd c
 finish_same NoMemory mid end c = c.0
 
 -- where the source is at its end
-pub ends_at_end : (status : Status) (input buf wait : List ℕ) (n taken : ℕ) (held new : Held) (start at mid end : Outside) (written : List ℕ) → ReadsOn input taken wait held start written at → IsRest false wait →
-    mid ≡ reads_on at mid → Told at.left (λ all. Takes all n buf mid.left) → n ≡ 0 → length buf ≢ 0 → taken ≤ script_bytes_limit → Told mid.written (λ w. FinishesAs status wait held new mid w end) →
-    FinishCounts status mid end → EndsSo status input start written end
-ends_at_end status input buf wait n taken held new start at mid end written r rest e told z ne low on c =
+pub ends_at_end : {setting : Setting} → (status : Status) (input buf wait : List ℕ) (n taken : ℕ) (held new : Held) (start at mid end : Outside) (written : List ℕ) → ReadsOn setting input taken wait held start written at → IsRest false wait →
+    mid ≡ reads_on at mid → Told at.left (λ all. Takes all n buf mid.left) → n ≡ 0 → length buf ≢ 0 → taken ≤ script_bytes_limit → Told mid.written (λ w. FinishesAs setting status wait held new mid w end) →
+    FinishCounts status mid end → EndsSo setting status input start written end
+ends_at_end {setting = setting} status input buf wait n taken held new start at mid end written r rest e told z ne low on c =
     let k = told r.back r.rest in
     let none : r.back ≡ [] = k.end z ne in
     let is : r.front ≡ input = at_end input r.front r.back r.are none in
     let count : length r.front ≡ taken = r.count in
     let short : length input ≤ script_bytes_limit = rw (← is) (omega arith) in
-    let p : Progress false input wait first_held held start written mid =
-    let P : List ℕ → Type 0 = λ s. Progress false s wait first_held held start written mid in subst P is (answered_on r.front wait held start at mid written e r.progress) in
+    let p : Progress setting false input wait first_held held start written mid =
+    let P : List ℕ → Type 0 = λ s. Progress setting false s wait first_held held start written mid in subst P is (answered_on r.front wait held start at mid written e r.progress) in
     finished status input wait held new start mid end written ((finish_same status mid end c).left ∙ k.rest ∙ ap Some (none_left n r.back none z)) short rest p on
 
 -- what holds of all that may be told is the end
-pub ends_as : (status : Status) (start end : Outside) → status ≢ Usage → Told start.left (λ input. Told start.written (λ written. EndsSo status input start written end)) → EndsAs status start end
-ends_as Done start end good told = told
-ends_as Usage start end good told = absurd (good refl)
-ends_as SourceFault start end good told = told
-ends_as SinkFault start end good told = told
-ends_as ScriptTooLong start end good told = told
-ends_as NoMemory start end good told = told
+pub ends_as : (setting : Setting) (status : Status) (start end : Outside) → status ≢ Usage → Told start.left (λ input. Told start.written (λ written. EndsSo setting status input start written end)) → EndsAs setting status start end
+ends_as setting Done start end good told = told
+ends_as setting Usage start end good told = absurd (good refl)
+ends_as setting SourceFault start end good told = told
+ends_as setting SinkFault start end good told = told
+ends_as setting ScriptTooLong start end good told = told
+ends_as setting NoMemory start end good told = told
 
 -- ## Counts of faults
 
@@ -415,7 +423,7 @@ finish_good NoMemory mid end c = (λ e. cc, λ e. cc)
 
 -- ## Where the sink took no more
 
-pub error_ends : (error : SinkError) (status : Status) (start end : Outside) → (error ≡ Failed → status ≡ SinkFault) → (error ≡ Starved → status ≡ NoMemory) → WhereTold (EndsInPart bare_setting) start end → EndsAs status start end
+pub error_ends : {setting : Setting} → (error : SinkError) (status : Status) (start end : Outside) → (error ≡ Failed → status ≡ SinkFault) → (error ≡ Starved → status ≡ NoMemory) → WhereTold (EndsInPart setting) start end → EndsAs setting status start end
 error_ends Failed status start end f s p = rw (f refl) p
 error_ends Starved status start end f s p = rw (s refl) p
 
@@ -437,7 +445,7 @@ block_kept buf block room e h = grind (arith, common_steps)
 
 -- ## Where nothing was read
 
-pub nothing_read : (input written : List ℕ) (start : Outside) → start.left ≡ Some input → start.written ≡ Some written → EndsInPart bare_setting input start written start
+pub nothing_read : {setting : Setting} → (input written : List ℕ) (start : Outside) → start.left ≡ Some input → start.written ≡ Some written → EndsInPart setting input start written start
 nothing_read input written start l k = record {
   ended = false;
   taken = [];

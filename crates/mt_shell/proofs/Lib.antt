@@ -1,13 +1,14 @@
-pub mod Corpora
 pub mod Shelves
 pub mod Meanings
 pub mod Fetches
 pub mod Keeping
 pub mod Unbuilt
 pub mod Adding
+pub mod Removing
 pub mod Registering
-pub mod Listing
 pub mod Runs
 pub mod Talks
 pub mod Endings
 pub mod Scripts
+pub mod Listing
+pub mod Starting

@@ -3,6 +3,7 @@ use Rattle.std.proofs.Common.{◌≡◌, ◌⊎◌, inl, inr, ℕ, List, [], ◌
 use Rattle.mt_shelf_spec.specs.Files.{Files, no_files}
 use Rattle.mt_script_spec.specs.Commands.{Command}
 use Rattle.mt_session_spec.specs.World.{Held, World}
+use Rattle.mt_session_spec.specs.Settings.{Setting}
 use Rattle.mt_session_spec.specs.Gains.{Gained, none_gained}
 use Rattle.mt_session_spec.specs.Refusals.{Refusal, refusal_line, failure_line, no_memory_line}
 use Rattle.mt_session_spec.specs.Checks.{Check, When, Passes, FirstStands, NoneStands}
@@ -16,9 +17,9 @@ use Rattle.mt_answer.specs.declared.reply.Reply.TheVariants.{NoMemory}
 use Rattle.mt_answer.specs.Replies.{SaysOf, SaysNoMemory, Given}
 use Rattle.mt_shell.specs.declared.fetch.Fetched.{Fetched}
 use Rattle.mt_shell.specs.Sights.{Sees}
-use Rattle.mt_shell.specs.Outsides.{known, gains}
+use Rattle.mt_shell.specs.Outsides.{known, gains, beside}
 use Rattle.mt_shell.specs.Fetches.{Finds, gained_of}
-use Rattle.mt_shell.specs.Answers.{Answers, AnswersAlone, Stepped, over}
+use Rattle.mt_shell.specs.Answers.{Answers, AnswersAlone, AnswersBeside, Stepped, over}
 
 pub not_true : IsTrue false → ⊥
 not_true h = cc
@@ -80,9 +81,9 @@ same_known known held files agrees = ap (λ (fs : Option Files). known_as held f
     same_files None agrees = refl
     same_files (Some all) agrees = ap Some (sym (agrees all refl))
 
-steps : (held new : Held) (command : Command) (reply : Reply) (gained : Gained) (files : Files) (start end : Outside) → ((all : Files) → start.files ≡ Some all → files ≡ all) → end ≡ gains start gained →
-    Answers (over held files) command gained reply (over new files) → Stepped held command reply new start end
-steps held new command reply gained files start end agrees e a =
+steps : (setting : Setting) (held new : Held) (command : Command) (reply : Reply) (gained : Gained) (files : Files) (start end : Outside) → ((all : Files) → start.files ≡ Some all → files ≡ all) → end ≡ gains start gained →
+    Answers setting (over held files) command gained reply (over new files) → Stepped setting held command reply new start end
+steps setting held new command reply gained files start end agrees e a =
     let same : end.files ≡ start.files = ap (λ (o : Outside). o.files) e in
     record {
       gained = gained;
@@ -110,13 +111,26 @@ some_agree (Some files) all e = cc
 pub nothing_more : (start : Outside) → start ≡ gains start none_gained
 nothing_more start = rw (append-nil start.failed, append-nil start.refused) refl
 
--- a command that looks at no file
-pub steps_alone : (held new : Held) (command : Command) (reply : Reply) (start : Outside) → AnswersAlone held command reply new → Stepped held command reply new start start
-steps_alone held new command reply start a =
-    steps held new command reply none_gained (some_files start.files) start start (some_agree start.files) (nothing_more start) (a (some_files start.files))
+-- a command that looks at no file and asks no shop
+pub steps_alone : (setting : Setting) (held new : Held) (command : Command) (reply : Reply) (start : Outside) → AnswersAlone setting held command reply new → Stepped setting held command reply new start start
+steps_alone setting held new command reply start a =
+    steps setting held new command reply none_gained (some_files start.files) start start (some_agree start.files) (nothing_more start) (a (some_files start.files))
 
--- one that looks at one
-pub steps_after : (held new : Held) (command : Command) (reply : Reply) (file : List ℕ) (fetched : Fetched) (start end : Outside) → Sees start.files (λ files. Finds files file fetched) →
+-- one that asks the shop
+pub steps_beside : (setting : Setting) (held new : Held) (command : Command) (reply : Reply) (start : Outside) (before after : List (List ℕ)) → AnswersBeside setting held command reply new before after →
+    Stepped setting held command reply new (beside start before) (beside start after)
+steps_beside setting held new command reply start before after a =
+    steps setting held new command reply (record { failed = []; refused = a.refused }) (some_files start.files) (beside start before) (beside start after) (some_agree start.files)
+    (rw (append-nil start.failed, a.more) refl) (a.answers (some_files start.files))
+
+-- what is gained beside a shop
+gains_beside : (start end : Outside) (file : List ℕ) (fetched : Fetched) (refused : List (List ℕ)) → end ≡ gains start (gained_of file fetched) → beside end refused ≡ gains (beside start refused) (gained_of file fetched)
+gains_beside start end file fetched refused e = rw (e, append-nil refused) refl
+
+-- one that looks at one file
+pub steps_after : (setting : Setting) (held new : Held) (command : Command) (reply : Reply) (file : List ℕ) (fetched : Fetched) (start end : Outside) → Sees start.files (λ files. Finds files file fetched) →
     end ≡ gains start (gained_of file fetched) →
-    ((files : Files) → Finds files file fetched → Answers (over held files) command (gained_of file fetched) reply (over new files)) → Stepped held command reply new start end
-steps_after held new command reply file fetched start end s e a = steps held new command reply (gained_of file fetched) s.value start end s.agrees e (a s.value s.holds)
+    ((files : Files) → Finds files file fetched → Answers setting (over held files) command (gained_of file fetched) reply (over new files)) → (refused : List (List ℕ)) →
+    Stepped setting held command reply new (beside start refused) (beside end refused)
+steps_after setting held new command reply file fetched start end s e a refused =
+    steps setting held new command reply (gained_of file fetched) s.value (beside start refused) (beside end refused) s.agrees (gains_beside start end file fetched refused e) (a s.value s.holds)

@@ -114,7 +114,7 @@ then_begins a b c xs ys (Skips bytes line mid items others f s t) r = Skips a li
 then_begins a b c xs ys (Then bytes item mid items others w t) r = Then a item mid (items ++ ys) c w (then_begins mid b c items ys t r)
 
 -- nothing was answered yet
-pub none_yet : {ended : Bool} → (bytes : List ℕ) (held : Held) (start : Outside) (written : List ℕ) → start.written ≡ Some written → Progress ended bytes bytes held held start written start
+pub none_yet : {setting : Setting} → {ended : Bool} → (bytes : List ℕ) (held : Held) (start : Outside) (written : List ℕ) → start.written ≡ Some written → Progress setting ended bytes bytes held held start written start
 none_yet bytes held start written e = record {
   items = [];
   gained = none_gained;
@@ -135,8 +135,8 @@ one_leaves start written answers gained at answer files gains end l m =
     (later start written (output_of answers) at.files gained at (bytes_of answer) files gains end l m)
 
 -- one item more
-pub one_more : {ended : Bool} → (a b c : List ℕ) (item : Item) (old mid new : Held) (start : Outside) (written : List ℕ) (at end : Outside) → Progress ended a b old mid start written at →
-    Begins ended b (item ∷ []) c → item ≢ Given Quit → Told at.written (λ here. Replied mid item new at here end) → Progress ended a c old new start written end
+pub one_more : {setting : Setting} → {ended : Bool} → (a b c : List ℕ) (item : Item) (old mid new : Held) (start : Outside) (written : List ℕ) (at end : Outside) → Progress setting ended a b old mid start written at →
+    Begins ended b (item ∷ []) c → item ≢ Given Quit → Told at.written (λ here. Replied setting mid item new at here end) → Progress setting ended a c old new start written end
 one_more a b c item old mid new start written at end p t ne told =
     let r = told (written ++ output_of p.answers) p.leaves.held in
     record {
@@ -151,8 +151,8 @@ one_more a b c item old mid new start written at end p t ne told =
     }
 
 -- and then a `quit`
-quit_more : {ended : Bool} → (a b c : List ℕ) (old mid new : Held) (start : Outside) (written : List ℕ) (at end : Outside) → Progress ended a b old mid start written at →
-    Begins ended b (Given Quit ∷ []) c → Told at.written (λ here. Replied mid (Given Quit) new at here end) → ProgressToQuit ended a old start written end
+quit_more : {setting : Setting} → {ended : Bool} → (a b c : List ℕ) (old mid new : Held) (start : Outside) (written : List ℕ) (at end : Outside) → Progress setting ended a b old mid start written at →
+    Begins ended b (Given Quit ∷ []) c → Told at.written (λ here. Replied setting mid (Given Quit) new at here end) → ProgressToQuit setting ended a old start written end
 quit_more a b c old mid new start written at end p t told =
     let r = told (written ++ output_of p.answers) p.leaves.held in
     record {
@@ -168,14 +168,14 @@ quit_more a b c old mid new start written at end p t told =
       leaves = one_leaves start written p.answers p.gained at r.answer end.files r.gained end p.leaves r.leaves;
     }
 
-pub quit_at : {ended : Bool} → (a b c : List ℕ) (item : Item) (old mid new : Held) (start : Outside) (written : List ℕ) (at end : Outside) → Progress ended a b old mid start written at →
-    Begins ended b (item ∷ []) c → item ≡ Given Quit → Told at.written (λ here. Replied mid item new at here end) → ProgressToQuit ended a old start written end
-quit_at {ended} a b c item old mid new start written at end p t e told =
-    quit_more a b c old mid new start written at end p (subst (λ (i : Item). Begins ended b (i ∷ []) c) e t) (subst (λ (i : Item). Told at.written (λ here. Replied mid i new at here end)) e told)
+pub quit_at : {setting : Setting} → {ended : Bool} → (a b c : List ℕ) (item : Item) (old mid new : Held) (start : Outside) (written : List ℕ) (at end : Outside) → Progress setting ended a b old mid start written at →
+    Begins ended b (item ∷ []) c → item ≡ Given Quit → Told at.written (λ here. Replied setting mid item new at here end) → ProgressToQuit setting ended a old start written end
+quit_at {setting = setting} {ended} a b c item old mid new start written at end p t e told =
+    quit_more a b c old mid new start written at end p (subst (λ (i : Item). Begins ended b (i ∷ []) c) e t) (subst (λ (i : Item). Told at.written (λ here. Replied setting mid i new at here end)) e told)
 
 -- lines that stand for nothing more
-pub and_rest : {ended : Bool} → (a b c : List ℕ) (old mid : Held) (start : Outside) (written : List ℕ) (at : Outside) → Progress ended a b old mid start written at → Begins ended b [] c →
-    Progress ended a c old mid start written at
+pub and_rest : {setting : Setting} → {ended : Bool} → (a b c : List ℕ) (old mid : Held) (start : Outside) (written : List ℕ) (at : Outside) → Progress setting ended a b old mid start written at → Begins ended b [] c →
+    Progress setting ended a c old mid start written at
 and_rest a b c old mid start written at p t = record {
   items = p.items;
   gained = p.gained;
@@ -187,8 +187,8 @@ and_rest a b c old mid start written at p t = record {
 }
 
 -- one item more, whose reply was written in part
-one_in_part : {ended : Bool} → (a b c : List ℕ) (item : Item) (old mid : Held) (start : Outside) (written : List ℕ) (at end : Outside) → Progress ended a b old mid start written at →
-    Begins ended b (item ∷ []) c → Told at.written (λ here. RepliedInPart mid item at here end) → ProgressInPart ended a old start written end
+one_in_part : {setting : Setting} → {ended : Bool} → (a b c : List ℕ) (item : Item) (old mid : Held) (start : Outside) (written : List ℕ) (at end : Outside) → Progress setting ended a b old mid start written at →
+    Begins ended b (item ∷ []) c → Told at.written (λ here. RepliedInPart setting mid item at here end) → ProgressInPart setting ended a old start written end
 one_in_part a b c item old mid start written at end p t told =
     let r = told (written ++ output_of p.answers) p.leaves.held in
     record {
@@ -207,8 +207,8 @@ one_in_part a b c item old mid start written at end p t told =
     }
 
 -- nothing more was written
-none_in_part : {ended : Bool} → (a b : List ℕ) (old mid : Held) (start : Outside) (written : List ℕ) (at end : Outside) → Progress ended a b old mid start written at →
-    Told at.written (λ here. Leaves at here [] at.files none_gained end) → ProgressInPart ended a old start written end
+none_in_part : {setting : Setting} → {ended : Bool} → (a b : List ℕ) (old mid : Held) (start : Outside) (written : List ℕ) (at end : Outside) → Progress setting ended a b old mid start written at →
+    Told at.written (λ here. Leaves at here [] at.files none_gained end) → ProgressInPart setting ended a old start written end
 none_in_part a b old mid start written at end p told =
     let leaves : Leaves start written (output_of p.answers ++ []) at.files (gained_then p.gained none_gained) end =
     later start written (output_of p.answers) at.files p.gained at [] at.files none_gained end p.leaves (told (written ++ output_of p.answers) p.leaves.held) in
@@ -232,7 +232,7 @@ none_in_part a b old mid start written at end p told =
     }
 
 -- nothing was read for want of memory
-pub nothing_done : {ended : Bool} → (bytes : List ℕ) (held : Held) (start : Outside) (written : List ℕ) → start.written ≡ Some written → ProgressInPart ended bytes held start written start
+pub nothing_done : {setting : Setting} → {ended : Bool} → (bytes : List ℕ) (held : Held) (start : Outside) (written : List ℕ) → start.written ≡ Some written → ProgressInPart setting ended bytes held start written start
 nothing_done bytes held start written e = record {
   items = [];
   others = bytes;
@@ -248,9 +248,9 @@ nothing_done bytes held start written e = record {
 }
 
 -- an error at the item that comes next, or where none came for want of memory
-pub part_at : {ended : Bool} → (next : Option Item) (a b c : List ℕ) (old mid : Held) (start : Outside) (written : List ℕ) (at end : Outside) → Progress ended a b old mid start written at →
+pub part_at : {setting : Setting} → {ended : Bool} → (next : Option Item) (a b c : List ℕ) (old mid : Held) (start : Outside) (written : List ℕ) (at end : Outside) → Progress setting ended a b old mid start written at →
     ((item : Item) → next ≡ Some item → Begins ended b (item ∷ []) c) →
-    Told at.written (λ here. MatchOption next (Leaves at here [] at.files none_gained end) (λ item. RepliedInPart mid item at here end)) → ProgressInPart ended a old start written end
+    Told at.written (λ here. MatchOption next (Leaves at here [] at.files none_gained end) (λ item. RepliedInPart setting mid item at here end)) → ProgressInPart setting ended a old start written end
 part_at None a b c old mid start written at end p t told = none_in_part a b old mid start written at end p told
 part_at (Some item) a b c old mid start written at end p t told = one_in_part a b c item old mid start written at end p (t item refl) told
 

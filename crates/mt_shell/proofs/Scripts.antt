@@ -3,10 +3,10 @@ use Rattle.std.proofs.Common.{◌≡◌, ℕ, inl, inr, true, List, [], ◌∷�
 use Rattle.mt_shelf_spec.specs.Files.{Files}
 use Rattle.mt_script_spec.specs.Commands.{Quit}
 use Rattle.mt_script_spec.specs.Script.{Item, Given}
-use Rattle.mt_session_spec.specs.Settings.{bare_setting}
+use Rattle.mt_session_spec.specs.Settings.{Setting}
 use Rattle.mt_session_spec.specs.Gains.{Gained, none_gained}
 use Rattle.mt_session_spec.specs.Answers.{Answer, output_of}
-use Rattle.mt_session_spec.specs.Replies.{Known, Replies, NoneStarved, first_known}
+use Rattle.mt_session_spec.specs.Replies.{Known, Replies, NoneStarved, NoneDeep, first_known}
 use Rattle.mt_session_spec.specs.Runs.{Outside, Leaves, AreTheAnswers}
 use Rattle.mt_session_spec.specs.Laws.{IsSaidItem, ItemsAreSaid, RepliesAreAnswers}
 use Rattle.std.specs.List.{All}
@@ -23,14 +23,14 @@ none_more start end written output stored gained n l =
     let P : List (List ℕ) → List (List ℕ) → Gained = λ a b. record { failed = a; refused = b } in
     ap (λ a. P a gained.refused) f ∙ ap (λ b. P [] b) r
 
-the_answers : (said : ItemsAreSaid) (answers_of : RepliesAreAnswers) (items : List Item) (files : Files) (told : Option Files) (gained : Gained) (answers : List Answer) (last : Known) → told ≡ Some files → gained ≡ none_gained →
-    All IsSaidItem items → Replies bare_setting items (first_known told) gained answers last → NoneStarved answers → AreTheAnswers bare_setting items files answers
-the_answers said answers_of items files told gained answers last t g all r none =
-    answers_of bare_setting items files answers last all (subst (λ (o : Option Files). Replies bare_setting items (first_known o) none_gained answers last) t
-    (subst (λ (h : Gained). Replies bare_setting items (first_known told) h answers last) g r)) none
+the_answers : {setting : Setting} → (said : ItemsAreSaid) (answers_of : RepliesAreAnswers) (items : List Item) (files : Files) (told : Option Files) (gained : Gained) (answers : List Answer) (last : Known) → told ≡ Some files → gained ≡ none_gained →
+    All IsSaidItem items → Replies setting items (first_known told) gained answers last → NoneStarved answers → NoneDeep items → AreTheAnswers setting items files answers
+the_answers {setting = setting} said answers_of items files told gained answers last t g all r none deep =
+    answers_of setting items files answers last all (subst (λ (o : Option Files). Replies setting items (first_known o) none_gained answers last) t
+    (subst (λ (h : Gained). Replies setting items (first_known told) h answers last) g r)) none deep
 
 pub the_law : ItemsAreSaid → RepliesAreAnswers → EndsAreAnswers
-the_law said answers_of input written start end files t n (inl e) =
+the_law said answers_of setting input written start end files t n (inl e) =
     let a = e.answered in
     record {
       ended = true;
@@ -44,7 +44,7 @@ the_law said answers_of input written start end files t n (inl e) =
       one = the_answers said answers_of a.items files start.files a.gained a.answers a.last t (none_more start end written (output_of a.answers) a.last.files a.gained n a.leaves)
           (said true input a.rest a.items a.read.begins) a.replies;
     }
-the_law said answers_of input written start end files t n (inr e) =
+the_law said answers_of setting input written start end files t n (inr e) =
     let a = e.answered in
     record {
       ended = e.ended;

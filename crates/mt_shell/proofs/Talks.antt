@@ -5,7 +5,7 @@ use Rattle.mt_shelf_spec.specs.Files.{Files}
 use Rattle.mt_script_spec.specs.Commands.{Command}
 use Rattle.mt_script_spec.specs.Script.{Item, Given}
 use Rattle.mt_session_spec.specs.World.{World, Held}
-use Rattle.mt_session_spec.specs.Settings.{bare_setting}
+use Rattle.mt_session_spec.specs.Settings.{Setting}
 use Rattle.mt_session_spec.specs.Gains.{Gained, none_gained}
 use Rattle.mt_session_spec.specs.Answers.{Answer, bytes_of}
 use Rattle.mt_session_spec.specs.Refusals.{no_memory_line}
@@ -52,8 +52,8 @@ some_agree None all e = cc
 some_agree (Some files) all e = cc
 
 -- a line that is no command, or a body cut short: the shelf is not asked
-plain_step : (held : Held) (item : Item) (answer : Answer) (told : Option Files) → ((world : World) → ItemStep bare_setting world item none_gained world answer) →
-    KnownStep bare_setting (known_as held told) item none_gained (known_as held told) answer
+plain_step : {setting : Setting} → (held : Held) (item : Item) (answer : Answer) (told : Option Files) → ((world : World) → ItemStep setting world item none_gained world answer) →
+    KnownStep setting (known_as held told) item none_gained (known_as held told) answer
 plain_step held item answer told s = record {
   world = record { held = held; files = some_files told };
   may_be = record { held = refl; files = some_agree told };
@@ -63,13 +63,13 @@ plain_step held item answer told s = record {
 }
 
 -- the same behind it, where the shelf tells as before
-step_to : (old : Known) (item : Item) (gained : Gained) (held : Held) (files told : Option Files) (answer : Answer) → told ≡ files → KnownStep bare_setting old item gained (known_as held files) answer →
-    KnownStep bare_setting old item gained (known_as held told) answer
-step_to old item gained held files told answer e s = subst (λ (fs : Option Files). KnownStep bare_setting old item gained (known_as held fs) answer) (sym e) s
+step_to : {setting : Setting} → (old : Known) (item : Item) (gained : Gained) (held : Held) (files told : Option Files) (answer : Answer) → told ≡ files → KnownStep setting old item gained (known_as held files) answer →
+    KnownStep setting old item gained (known_as held told) answer
+step_to {setting = setting} old item gained held files told answer e s = subst (λ (fs : Option Files). KnownStep setting old item gained (known_as held fs) answer) (sym e) s
 
-pub plain_reply : (held : Held) (item : Item) (answer : Answer) (bytes : List ℕ) (start end : Outside) (written : List ℕ) →
-    ((world : World) → ItemStep bare_setting world item none_gained world answer) → bytes ≡ bytes_of answer → end ≡ writes_on start end → start.written ≡ Some written →
-    Told start.written (λ all. end.written ≡ Some (all ++ bytes)) → Replied held item held start written end
+pub plain_reply : {setting : Setting} → (held : Held) (item : Item) (answer : Answer) (bytes : List ℕ) (start end : Outside) (written : List ℕ) →
+    ((world : World) → ItemStep setting world item none_gained world answer) → bytes ≡ bytes_of answer → end ≡ writes_on start end → start.written ≡ Some written →
+    Told start.written (λ all. end.written ≡ Some (all ++ bytes)) → Replied setting held item held start written end
 plain_reply held item answer bytes start end written s e only h told = record {
   gained = none_gained;
   answer = answer;
@@ -82,9 +82,9 @@ plain_reply held item answer bytes start end written s e only h told = record {
   };
 }
 
-pub plain_front : (held : Held) (item : Item) (answer : Answer) (bytes : List ℕ) (start end : Outside) (written : List ℕ) →
-    ((world : World) → ItemStep bare_setting world item none_gained world answer) → bytes ≡ bytes_of answer → end ≡ writes_on start end → start.written ≡ Some written →
-    Told start.written (λ all. WroteFront bytes all end.written) → RepliedInPart held item start written end
+pub plain_front : {setting : Setting} → (held : Held) (item : Item) (answer : Answer) (bytes : List ℕ) (start end : Outside) (written : List ℕ) →
+    ((world : World) → ItemStep setting world item none_gained world answer) → bytes ≡ bytes_of answer → end ≡ writes_on start end → start.written ≡ Some written →
+    Told start.written (λ all. WroteFront bytes all end.written) → RepliedInPart setting held item start written end
 plain_front held item answer bytes start end written s e only h told =
     let wrote = told written h in
     record {
@@ -118,9 +118,9 @@ are_said reply answer (SaysLines bytes lines e) = e
 are_said reply answer (SaysLast bytes line e) = e ∙ sym (append-nil (closed line))
 are_said reply answer SaysNoMemory = sym (append-nil (closed no_memory_line))
 
-pub whole_reply : (held new : Held) (command : Command) (reply : Reply) (bytes : List ℕ) (start mid end : Outside) (written : List ℕ) → Stepped held command reply new start mid →
+pub whole_reply : {setting : Setting} → (held new : Held) (command : Command) (reply : Reply) (bytes : List ℕ) (start mid end : Outside) (written : List ℕ) → Stepped setting held command reply new start mid →
     bytes ≡ reply_bytes reply → end ≡ writes_on mid end → start.written ≡ Some written → Told mid.written (λ all. end.written ≡ Some (all ++ bytes)) →
-    Replied held (Given command) new start written end
+    Replied setting held (Given command) new start written end
 whole_reply held new command reply bytes start mid end written s e only h told = record {
   gained = s.gained;
   answer = s.answer;
@@ -133,9 +133,9 @@ whole_reply held new command reply bytes start mid end written s e only h told =
   };
 }
 
-pub front_reply : (held new : Held) (command : Command) (reply : Reply) (bytes : List ℕ) (start mid end : Outside) (written : List ℕ) → Stepped held command reply new start mid →
+pub front_reply : {setting : Setting} → (held new : Held) (command : Command) (reply : Reply) (bytes : List ℕ) (start mid end : Outside) (written : List ℕ) → Stepped setting held command reply new start mid →
     bytes ≡ reply_bytes reply → end ≡ writes_on mid end → start.written ≡ Some written → Told mid.written (λ all. WroteFront bytes all end.written) →
-    RepliedInPart held (Given command) start written end
+    RepliedInPart setting held (Given command) start written end
 front_reply held new command reply bytes start mid end written s e only h told =
     let wrote = told written (ap (λ (o : Outside). o.written) s.outside ∙ h) in
     record {

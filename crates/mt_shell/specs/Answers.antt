@@ -9,7 +9,7 @@ use Rattle.mt_shelf_spec.specs.Files.{Files}
 use Rattle.mt_script_spec.specs.Commands.{Command}
 use Rattle.mt_script_spec.specs.Script as script
 use Rattle.mt_session_spec.specs.World.{Held, World, with_text, IsFull}
-use Rattle.mt_session_spec.specs.Settings.{bare_setting, mapper_names}
+use Rattle.mt_session_spec.specs.Settings.{Setting, mapper_names}
 use Rattle.mt_session_spec.specs.Gains.{Gained, none_gained}
 use Rattle.mt_session_spec.specs.Refusals.{BadRegistry, NoAttribute, BadVertical, CorpusFull, refusal_line, no_memory_line, ok_line}
 use Rattle.mt_session_spec.specs.Answers as answers
@@ -27,20 +27,26 @@ abbrev pub over : Held → Files → World
 over held files = record { held = held; files = files }
 
 -- the command means this reply and this change, where the objects outside gained this
-abbrev pub Answers : World → Command → Gained → Reply → World → Type 0
-Answers world command gained said new = SaysOf (λ answer. Step bare_setting world command gained new answer) said
+abbrev pub Answers : Setting → World → Command → Gained → Reply → World → Type 0
+Answers setting world command gained said new = SaysOf (λ answer. Step setting world command gained new answer) said
 
 -- the same of a command that asks nothing of what is outside, whatever the files are
-abbrev pub AnswersAlone : Held → Command → Reply → Held → Type 0
-AnswersAlone held command said new = (files : Files) → Answers (over held files) command none_gained said (over new files)
+abbrev pub AnswersAlone : Setting → Held → Command → Reply → Held → Type 0
+AnswersAlone setting held command said new = (files : Files) → Answers setting (over held files) command none_gained said (over new files)
+
+-- the same of one that asks the shop alone, which came to have refused the new texts where it had refused the old ones
+pub record AnswersBeside (setting : Setting) (held : Held) (command : Command) (said : Reply) (new : Held) (before after : List (List ℕ)) : Type 0 where
+  pub refused : List (List ℕ)
+  pub more : after ≡ before ++ refused
+  pub answers : (files : Files) → Answers setting (over held files) command (record { failed = []; refused = refused }) said (over new files)
 
 -- One command over a shelf that may tell its files: what it answers is right for some files, and for those that are told where they are. Nothing else is changed
 -- outside than by what it gained.
-pub record Stepped (held : Held) (command : Command) (said : Reply) (new : Held) (start end : Outside) : Type 0 where
+pub record Stepped (setting : Setting) (held : Held) (command : Command) (said : Reply) (new : Held) (start end : Outside) : Type 0 where
   pub gained : Gained
   pub answer : answers.Answer
   pub says : Says said answer
-  pub step : KnownStep bare_setting (known held start) (script.Given command) gained (known new end) answer
+  pub step : KnownStep setting (known held start) (script.Given command) gained (known new end) answer
   pub outside : end ≡ gains start gained
 
 -- the command is refused as a whole
@@ -61,15 +67,15 @@ abbrev pub SetsRegistry : Held → Registry → Reply → Held → Type 0
 SetsRegistry held registry said new = SaysOf (λ answer. Sets held registry answer new) said
 
 -- What is done with bytes that are to be a registry: they are none, or it is set.
-pub data Registers (held : Held) (bytes : List ℕ) : answers.Answer → Held → Type 0 where
-  BadLine : (line : ℕ) (cause : RegistryCause) → FirstRegistryFault (mapper_names bare_setting) bytes line cause →
-      Registers held bytes (answers.Refused (refusal_line (BadRegistry line cause))) held
-  Baseless : LacksBase (mapper_names bare_setting) bytes → Registers held bytes (answers.Refused (refusal_line NoAttribute)) held
-  Good : (registry : Registry) → Reads (mapper_names bare_setting) bytes registry → Registers held bytes (answers.Lines (ok_line ∷ [])) (with_registry held registry)
-  Unread : Registers held bytes (answers.Refused no_memory_line) held
+pub data Registers (setting : Setting) (held : Held) (bytes : List ℕ) : answers.Answer → Held → Type 0 where
+  BadLine : (line : ℕ) (cause : RegistryCause) → FirstRegistryFault (mapper_names setting) bytes line cause →
+      Registers setting held bytes (answers.Refused (refusal_line (BadRegistry line cause))) held
+  Baseless : LacksBase (mapper_names setting) bytes → Registers setting held bytes (answers.Refused (refusal_line NoAttribute)) held
+  Good : (registry : Registry) → Reads (mapper_names setting) bytes registry → Registers setting held bytes (answers.Lines (ok_line ∷ [])) (with_registry held registry)
+  Unread : Registers setting held bytes (answers.Refused no_memory_line) held
 
-abbrev pub ReadsRegistry : Held → List ℕ → Reply → Held → Type 0
-ReadsRegistry held bytes said new = SaysOf (λ answer. Registers held bytes answer new) said
+abbrev pub ReadsRegistry : Setting → Held → List ℕ → Reply → Held → Type 0
+ReadsRegistry setting held bytes said new = SaysOf (λ answer. Registers setting held bytes answer new) said
 
 -- What is done with a text whose name is free: no room, or it is held from now on.
 pub data Keeps (held : Held) (text : Text) : answers.Answer → Held → Type 0 where

@@ -4,7 +4,7 @@ use Rattle.mt_shelf_spec.specs.Files.{Files}
 use Rattle.mt_outside.specs.Faults.{Rose}
 use Rattle.mt_outside.specs.Told.{Told}
 use Rattle.mt_session_spec.specs.World.{Held, first_held}
-use Rattle.mt_session_spec.specs.Settings.{bare_setting}
+use Rattle.mt_session_spec.specs.Settings.{Setting}
 use Rattle.mt_session_spec.specs.Runs.{Outside, script_bytes_limit, EndsWell, EndsWithFault, EndsTooLong, EndsInPart, AnswersScript}
 use Rattle.mt_shell.specs.declared.top.Status.{Status}
 use Rattle.mt_shell.specs.declared.top.Status.TheVariants.{Done, Usage, SourceFault, SinkFault, ScriptTooLong, NoMemory}
@@ -25,13 +25,13 @@ FaultsAs ScriptTooLong start end = NoFaults start end
 FaultsAs NoMemory start end = NoFaults start end
 
 -- what was read and written by a run that ends so
-abbrev pub EndsAs : Status → Outside → Outside → Type 0
-EndsAs Done start end = WhereTold (EndsWell bare_setting) start end
-EndsAs Usage start end = end ≡ start
-EndsAs SourceFault start end = WhereTold (EndsWithFault bare_setting) start end
-EndsAs SinkFault start end = WhereTold (EndsInPart bare_setting) start end
-EndsAs ScriptTooLong start end = WhereTold (EndsTooLong bare_setting) start end
-EndsAs NoMemory start end = WhereTold (EndsInPart bare_setting) start end
+abbrev pub EndsAs : Setting → Status → Outside → Outside → Type 0
+EndsAs setting Done start end = WhereTold (EndsWell setting) start end
+EndsAs setting Usage start end = end ≡ start
+EndsAs setting SourceFault start end = WhereTold (EndsWithFault setting) start end
+EndsAs setting SinkFault start end = WhereTold (EndsInPart setting) start end
+EndsAs setting ScriptTooLong start end = WhereTold (EndsTooLong setting) start end
+EndsAs setting NoMemory start end = WhereTold (EndsInPart setting) start end
 
 -- the script is too long
 abbrev pub IsLong : Outside → Type 0
@@ -42,14 +42,14 @@ pub record NoneFailed (start end : Outside) : Type 0 where
   pub failed : end.failed ≡ start.failed
   pub refused : end.refused ≡ start.refused
 
--- what was written are answers to the script, and its one answer where none of them tells that memory was wanted
-abbrev pub IsTheAnswer : Outside → Outside → Type 0
-IsTheAnswer start end = Told start.left (λ input. Told start.written (λ written. Told start.files (λ files. NoneFailed start end → AnswersScript bare_setting input written files end)))
+-- What was written are answers to the script, and its one answer where none of them tells that memory was wanted and no pattern that is asked for nests too deep.
+abbrev pub IsTheAnswer : Setting → Outside → Outside → Type 0
+IsTheAnswer setting start end = Told start.left (λ input. Told start.written (λ written. Told start.files (λ files. NoneFailed start end → AnswersScript setting input written files end)))
 
 -- a run that ends well has written the answer of its script
 abbrev pub EndsAreAnswers : Type 0
-EndsAreAnswers = (input written : List ℕ) (start end : Outside) (files : Files) → start.files ≡ Some files → NoneFailed start end → EndsWell bare_setting input start written end →
-    AnswersScript bare_setting input written files end
+EndsAreAnswers = (setting : Setting) (input written : List ℕ) (start end : Outside) (files : Files) → start.files ≡ Some files → NoneFailed start end → EndsWell setting input start written end →
+    AnswersScript setting input written files end
 
 -- ## Parts
 
@@ -62,22 +62,22 @@ pub record Took (input : List ℕ) (taken : ℕ) (end : Outside) : Type 0 where
   pub count : length front ≡ taken
 
 -- So many bytes of the input were taken, and those that do not wait are answered.
-pub record ReadsOn (input : List ℕ) (taken : ℕ) (wait : List ℕ) (held : Held) (start : Outside) (written : List ℕ) (end : Outside) : Type 0 where
+pub record ReadsOn (setting : Setting) (input : List ℕ) (taken : ℕ) (wait : List ℕ) (held : Held) (start : Outside) (written : List ℕ) (end : Outside) : Type 0 where
   pub front : List ℕ
   pub back : List ℕ
   pub are : input ≡ front ++ back
   pub rest : end.left ≡ Some back
   pub count : length front ≡ taken
-  pub progress : Progress false front wait first_held held start written end
+  pub progress : Progress setting false front wait first_held held start written end
 
 -- what is answered where the script has ended
-abbrev pub FinishesAs : Status → List ℕ → Held → Held → Outside → List ℕ → Outside → Type 0
-FinishesAs Done bytes old new start written end = Progress true bytes [] old new start written end ⊎ ProgressToQuit true bytes old start written end
-FinishesAs Usage bytes old new start written end = ⊥
-FinishesAs SourceFault bytes old new start written end = ⊥
-FinishesAs SinkFault bytes old new start written end = ProgressInPart true bytes old start written end
-FinishesAs ScriptTooLong bytes old new start written end = ⊥
-FinishesAs NoMemory bytes old new start written end = ProgressInPart true bytes old start written end
+abbrev pub FinishesAs : Setting → Status → List ℕ → Held → Held → Outside → List ℕ → Outside → Type 0
+FinishesAs setting Done bytes old new start written end = Progress setting true bytes [] old new start written end ⊎ ProgressToQuit setting true bytes old start written end
+FinishesAs setting Usage bytes old new start written end = ⊥
+FinishesAs setting SourceFault bytes old new start written end = ⊥
+FinishesAs setting SinkFault bytes old new start written end = ProgressInPart setting true bytes old start written end
+FinishesAs setting ScriptTooLong bytes old new start written end = ⊥
+FinishesAs setting NoMemory bytes old new start written end = ProgressInPart setting true bytes old start written end
 
 -- how it ends then
 abbrev pub FinishCounts : Status → Outside → Outside → Type 0

@@ -1,5 +1,6 @@
 pub mod Codes
-pub mod Corpora
+pub mod Serves
+pub mod Listed
 pub mod Sights
 pub mod Outsides
 pub mod Fetches

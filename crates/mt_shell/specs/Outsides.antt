@@ -1,5 +1,5 @@
 -- What is outside of a session, and how it changes.
-use Rattle.std.specs.Prelude.{ℕ, ◌≡◌, List, [], ◌++◌, Option, Result, Ok, Err}
+use Rattle.std.specs.Prelude.{ℕ, ◌≡◌, List, ◌++◌, Option, Result, Ok, Err}
 use Rattle.mt_shelf_spec.specs.Files.{Files}
 use Rattle.mt_session_spec.specs.Gains.{Gained}
 use Rattle.mt_session_spec.specs.Replies.{Known}
@@ -9,10 +9,14 @@ use Rattle.mt_outside.specs.Faults.{Rose}
 use Rattle.mt_outside.specs.declared.sink.SinkError.{SinkError}
 use Rattle.mt_outside.specs.declared.sink.SinkError.TheVariants.{Failed, NoMemory}
 
--- a source, a sink and a shelf, and no shop yet
-abbrev pub outside : Option (List ℕ) → ℕ → Option (List ℕ) → ℕ → Option Files → List (List ℕ) → Outside
-outside left source_faults written sink_faults files failed =
-    record { left = left; source_faults = source_faults; written = written; sink_faults = sink_faults; files = files; failed = failed; refused = [] }
+-- a source, a sink, a shelf and a shop
+abbrev pub outside : Option (List ℕ) → ℕ → Option (List ℕ) → ℕ → Option Files → List (List ℕ) → List (List ℕ) → Outside
+outside left source_faults written sink_faults files failed refused =
+    record { left = left; source_faults = source_faults; written = written; sink_faults = sink_faults; files = files; failed = failed; refused = refused }
+
+-- what is outside, and a shop beside it that refused these texts
+abbrev pub beside : Outside → List (List ℕ) → Outside
+beside start refused = record start { refused = refused }
 
 -- ## What a call changes: all else is as it was
 

@@ -3,7 +3,7 @@ use Rattle.std.specs.Prelude.{ℕ, ◌≡◌, ◌≢◌, ◌-◌, Bool, List, []
 use Rattle.mt_script_spec.specs.Commands.{Quit}
 use Rattle.mt_script_spec.specs.Script.{Item, Given, Bad, CutShort, Begins}
 use Rattle.mt_session_spec.specs.World.{Held}
-use Rattle.mt_session_spec.specs.Settings.{bare_setting}
+use Rattle.mt_session_spec.specs.Settings.{Setting}
 use Rattle.mt_session_spec.specs.Gains.{Gained}
 use Rattle.mt_session_spec.specs.Answers.{Answer, bytes_of, output_of}
 use Rattle.mt_session_spec.specs.Steps.{IsSaid}
@@ -21,35 +21,35 @@ use Rattle.mt_shell.specs.Outsides.{known}
 -- ## Items
 
 -- One item was answered: the bytes that the sink holds went on with its answer.
-pub record Replied (old : Held) (item : Item) (new : Held) (start : Outside) (written : List ℕ) (end : Outside) : Type 0 where
+pub record Replied (setting : Setting) (old : Held) (item : Item) (new : Held) (start : Outside) (written : List ℕ) (end : Outside) : Type 0 where
   pub gained : Gained
   pub answer : Answer
-  pub step : KnownStep bare_setting (known old start) item gained (known new end) answer
+  pub step : KnownStep setting (known old start) item gained (known new end) answer
   pub leaves : Leaves start written (bytes_of answer) end.files gained end
 
 -- One item was answered in part: the bytes that the sink holds went on with a front of its answer.
-pub record RepliedInPart (old : Held) (item : Item) (start : Outside) (written : List ℕ) (end : Outside) : Type 0 where
+pub record RepliedInPart (setting : Setting) (old : Held) (item : Item) (start : Outside) (written : List ℕ) (end : Outside) : Type 0 where
   pub last : Known
   pub gained : Gained
   pub answer : Answer
   pub front : List ℕ
   pub unwritten : List ℕ
   pub are : bytes_of answer ≡ front ++ unwritten
-  pub step : KnownStep bare_setting (known old start) item gained last answer
+  pub step : KnownStep setting (known old start) item gained last answer
   pub leaves : Leaves start written front last.files gained end
 
 -- From the bytes that waited these items were taken and answered, none of them a `quit`, and the others wait.
-pub record Progress (ended : Bool) (bytes still : List ℕ) (old new : Held) (start : Outside) (written : List ℕ) (end : Outside) : Type 0 where
+pub record Progress (setting : Setting) (ended : Bool) (bytes still : List ℕ) (old new : Held) (start : Outside) (written : List ℕ) (end : Outside) : Type 0 where
   pub items : List Item
   pub gained : Gained
   pub answers : List Answer
   pub taken : Begins ended bytes items still
   pub no_quit : NoQuit items
-  pub replies : Replies bare_setting items (known old start) gained answers (known new end)
+  pub replies : Replies setting items (known old start) gained answers (known new end)
   pub leaves : Leaves start written (output_of answers) end.files gained end
 
 -- The same, and then a `quit`.
-pub record ProgressToQuit (ended : Bool) (bytes : List ℕ) (old : Held) (start : Outside) (written : List ℕ) (end : Outside) : Type 0 where
+pub record ProgressToQuit (setting : Setting) (ended : Bool) (bytes : List ℕ) (old : Held) (start : Outside) (written : List ℕ) (end : Outside) : Type 0 where
   pub items : List Item
   pub others : List ℕ
   pub gained : Gained
@@ -57,11 +57,11 @@ pub record ProgressToQuit (ended : Bool) (bytes : List ℕ) (old : Held) (start 
   pub last : Known
   pub taken : Begins ended bytes (items ++ Given Quit ∷ []) others
   pub no_quit : NoQuit items
-  pub replies : Replies bare_setting (items ++ Given Quit ∷ []) (known old start) gained answers last
+  pub replies : Replies setting (items ++ Given Quit ∷ []) (known old start) gained answers last
   pub leaves : Leaves start written (output_of answers) last.files gained end
 
 -- The same as the first, where the last answer was written in part, or none was due.
-pub record ProgressInPart (ended : Bool) (bytes : List ℕ) (old : Held) (start : Outside) (written : List ℕ) (end : Outside) : Type 0 where
+pub record ProgressInPart (setting : Setting) (ended : Bool) (bytes : List ℕ) (old : Held) (start : Outside) (written : List ℕ) (end : Outside) : Type 0 where
   pub items : List Item
   pub others : List ℕ
   pub gained : Gained
@@ -70,7 +70,7 @@ pub record ProgressInPart (ended : Bool) (bytes : List ℕ) (old : Held) (start 
   pub output : List ℕ
   pub taken : Begins ended bytes items others
   pub no_quit : NoQuit (take (length items - 1) items)
-  pub replies : Replies bare_setting items (known old start) gained answers last
+  pub replies : Replies setting items (known old start) gained answers last
   pub part : InPart answers output
   pub leaves : Leaves start written output last.files gained end
 

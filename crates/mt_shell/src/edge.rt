@@ -68,7 +68,7 @@ pub struct Objects<'s, 'k, 'f, S: Source, K: Sink, F: Shelf> {
 }
 
 impl<S: Source, K: Sink, F: Shelf> Edge for Objects<'_, '_, '_, S, K, F> {
-    ghost seen = { λ o. outside (S.left o.source.now) (S.faults o.source.now) (K.held o.sink.now) (K.faults o.sink.now) (F.files o.shelf.now) (F.failed o.shelf.now) };
+    ghost seen = { λ o. outside (S.left o.source.now) (S.faults o.source.now) (K.held o.sink.now) (K.faults o.sink.now) (F.files o.shelf.now) (F.failed o.shelf.now) [] };
 
     ghost names = { λ o. (o.source.ghost_name, o.sink.ghost_name, o.shelf.ghost_name) };
 

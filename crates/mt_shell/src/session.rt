@@ -1,101 +1,85 @@
-//! What is held and what each command does to it.
+//! The session: what each command does.
 
-ghost use Rattle.std.specs.Prelude.{◌≡◌, ◌↔◌, IfOk, IsTrue};
-ghost use Rattle.mt_script_spec.specs.Commands as spec;
-ghost use Rattle.mt_session_spec.specs.World.{Holds, first_held};
+ghost use Rattle.std.specs.Prelude.{◌≡◌, IfOk};
+ghost use Rattle.mt_segment.specs.Mappers.{named};
+ghost use Rattle.mt_session_spec.specs.Settings.{Setting};
 ghost use Rattle.mt_session_spec.specs.Steps.{IsSaid};
 ghost use Rattle.mt_session_spec.specs.Answers as answers;
 ghost use Rattle.mt_session_spec.specs.Refusals.{ok_line as the_ok_line};
-ghost use Rattle.mt_script.specs.Seen.{ask_of, command_of};
+ghost use Rattle.mt_script.specs.Seen.{command_of};
 ghost use Rattle.mt_answer.specs.Replies.{Given};
-ghost use Rattle.mt_shell.specs.Answers.{AnswersAlone, Stepped, IsRefusal};
+ghost use Rattle.mt_shell.specs.Outsides.{beside};
+ghost use Rattle.mt_shell.specs.Serves.{Serves, first_kept};
+ghost use Rattle.mt_shell.specs.Answers.{Stepped, IsRefusal};
 
-mod adding;
-mod listing;
-mod registering;
-
-use super::corpus::Corpus;
 use super::edge::Edge;
-use mt_answer::{Refusal, Reply, answer, ok_line, refused};
-use mt_base::{NoMemory, Registry, Value};
-use mt_script::{Ask, Command};
-use mt_session_laws::{held_is_valid, refused_keep};
+use super::state::State;
+use mt_answer::{Refusal, Reply, ok_line, refused};
+use mt_base::NoMemory;
+use mt_mapper::Mapper;
+use mt_pattern::PatternShop;
+use mt_script::Command;
+use mt_session_laws::refused_keep;
 use std::alloc::Global;
-use std::marker::Model;
 
-/// The registry and the texts that the accepted commands have left, seen as what is held. It holds no grammar yet.
+/// The mappers that are at hand, and what the accepted commands have left. Once a registry is accepted, only the mappers that it names are kept.
 #[derive(Drop)]
-pub struct Session {
+pub struct Session<M: Mapper> {
     alloc: Global,
-    registry: Registry,
-    accepted: bool,
-    corpus: Corpus,
+    pub mappers: Vec<M>,
+    pub state: State,
 }
 
-impl Model for Session {
-    ghost use Rattle.std.specs.Prelude.{None};
-    ghost use Rattle.std.specs.Coded.{codes};
-    ghost use Rattle.mt_shell.specs.Codes.{expr_code, filters_code};
-    ghost use Rattle.mt_session_spec.specs.World.{Held, ValidHeld};
-
-    ghost Value = { Held };
-
-    ghost coded = { Prim.hlevel (codes, expr_code, filters_code) };
-
-    ghost view = { λ s. record { registry = s.registry; accepted = s.accepted; grammar = None; groups = s.corpus } };
-
-    ghost invariant = { λ s. ValidHeld (record { registry = s.registry; accepted = s.accepted; grammar = None; groups = s.corpus }) };
-}
-
-impl Session {
+impl<M: Mapper> Session<M> {
     /// The standard registry, and no texts.
-    pub fn new(alloc: Global) -> Result<Self, NoMemory>
-        ensures { IfOk result (λ session. session ≡ first_held) }
+    pub fn new(alloc: Global, mappers: Vec<M>) -> Result<Self, NoMemory>
+        ensures mappers { IfOk result (λ session. session.mappers ≡ mappers) }
+        ensures state { IfOk result (λ session. session.state ≡ first_kept) }
     {
-        held_is_valid();
         Ok(Session {
             alloc,
-            registry: Registry::standard(alloc)?,
-            accepted: false,
-            corpus: Corpus::new(alloc),
+            mappers,
+            state: State::new(alloc)?,
         })
     }
 
     /// Does what the command says, and answers it.
-    pub fn step<E: Edge>(&mut self, command: Command, edge: &mut E) -> Reply
-        requires { IsSaid (command_of command) }
+    pub fn step<E: Edge, P: PatternShop>(
+        &mut self,
+        command: Command,
+        edge: &mut E,
+        shop: &mut P,
+    ) -> Reply
+        ghost setting: { Setting }
+        requires said { IsSaid (command_of command) }
+        requires serves { Serves setting (named M.called M.image self.old.mappers.items) self.old.state }
         // The reply and the change are those that the command means, for the files that the shelf tells, and for some files where it tells none. Nothing is
         // read or written.
-        ensures means { Stepped self.old (command_of command) result self.new (E.seen edge.old) (E.seen edge.new) }
-        // A refused command changes nothing.
-        ensures refused { IsRefusal result → self.new ≡ self.old }
+        ensures means { Stepped setting self.old.state.held (command_of command) result self.new.state.held
+            (beside (E.seen edge.old) (P.refused shop.old)) (beside (E.seen edge.new) (P.refused shop.new)) }
+        // A refused command changes nothing that is held.
+        ensures refused { IsRefusal result → self.new.state.held ≡ self.old.state.held }
+        ensures serves { Serves setting (named M.called M.image self.new.mappers.items) self.new.state }
         ensures names { E.names edge.new ≡ E.names edge.old }
     {
         refused_keep();
+        self.state.valid();
         let alloc = self.alloc;
         match command {
-            Command::Registry { file } => self.set_registry(&file, edge),
-            Command::Text { name, body } => self.add_text(&name, body.as_slice()),
-            Command::Add { name, file } => self.add_file(&name, &file, edge),
-            Command::Ask(ask) => self.answer(&ask),
-            Command::Segments => self.segments(),
+            Command::Registry { file } => self.state.set_registry(&file, &mut self.mappers, edge),
+            Command::Text { name, body } => {
+                self.state
+                    .add_text(&name, body.as_slice(), &mut self.mappers)
+            }
+            Command::Add { name, file } => {
+                self.state.add_file(&name, &file, &mut self.mappers, edge)
+            }
+            Command::Ask(ask) => self.state.answer(&ask, shop),
+            Command::Segments => self.state.segments(),
+            Command::Remove { name } => self.state.remove(&name),
             Command::Quit => quit(alloc),
             _ => refused(alloc, &Refusal::BadCommand),
         }
-    }
-
-    /// Answers a question.
-    fn answer(&self, ask: &Ask) -> Reply
-        ensures { AnswersAlone self.now (spec.Asks (ask_of ask.now)) result self.now }
-    {
-        answer(self.alloc, &self.registry, self.corpus.texts(), ask)
-    }
-
-    /// Whether a text with this name is held.
-    fn holds(&self, name: &Value) -> bool
-        ensures { IsTrue result ↔ Holds self.now name.now }
-    {
-        self.corpus.holds(name)
     }
 }
 

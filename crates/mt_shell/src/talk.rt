@@ -3,12 +3,14 @@
 ghost use Rattle.std.specs.Prelude.{◌≡◌, ◌↔◌, ◌++◌, [], Ok, Some, true, false, IsTrue, IfOk, OnErr, MatchOption};
 ghost use Rattle.mt_outside.specs.Told.{Told};
 ghost use Rattle.mt_script_spec.specs.Script.{Item, Given, IsRest};
-ghost use Rattle.mt_session_spec.specs.World.{first_held};
+ghost use Rattle.mt_segment.specs.Mappers.{named};
+ghost use Rattle.mt_session_spec.specs.Settings.{Setting};
 ghost use Rattle.mt_session_spec.specs.Gains.{none_gained};
 ghost use Rattle.mt_session_spec.specs.Steps.{IsSaid};
 ghost use Rattle.mt_session_spec.specs.Runs.{Leaves};
 ghost use Rattle.mt_script.specs.Seen.{command_of};
-ghost use Rattle.mt_shell.specs.Outsides.{CountsSink, writes_on};
+ghost use Rattle.mt_shell.specs.Outsides.{CountsSink, beside, writes_on};
+ghost use Rattle.mt_shell.specs.Serves.{Serves, first_kept};
 ghost use Rattle.mt_shell.specs.Reads.{Replied, RepliedInPart, Progress, ProgressToQuit, ProgressInPart, item_of, IsLast, IsSaidNext, Flows, WroteFront};
 
 use super::edge::Edge;
@@ -16,7 +18,9 @@ use super::session::Session;
 use super::writes::write_all;
 use mt_answer::{BAD_COMMAND, CUT_SHORT, NO_MEMORY, Reply};
 use mt_base::NoMemory;
+use mt_mapper::Mapper;
 use mt_outside::SinkError;
+use mt_pattern::PatternShop;
 use mt_script::{Command, Next, ScriptReader};
 use std::alloc::Global;
 
@@ -31,71 +35,103 @@ pub enum Flow {
 
 /// A script that is read and the session that answers it.
 #[derive(Drop)]
-pub struct Talk {
+pub struct Talk<M: Mapper> {
     alloc: Global,
     pub reader: ScriptReader,
-    pub session: Session,
+    pub session: Session<M>,
 }
 
-impl Talk {
+impl<M: Mapper> Talk<M> {
     /// Nothing was read yet, and no text is held.
-    pub fn new(alloc: Global) -> Result<Self, NoMemory>
+    pub fn new(alloc: Global, mappers: Vec<M>) -> Result<Self, NoMemory>
         ensures reader { IfOk result (λ talk. talk.reader ≡ record { bytes = []; ended = false }) }
-        ensures session { IfOk result (λ talk. talk.session ≡ first_held) }
+        ensures mappers { IfOk result (λ talk. talk.session.mappers ≡ mappers) }
+        ensures state { IfOk result (λ talk. talk.session.state ≡ first_kept) }
     {
         Ok(Talk {
             alloc,
             reader: ScriptReader::new(alloc),
-            session: Session::new(alloc)?,
+            session: Session::new(alloc, mappers)?,
         })
     }
 
     /// Takes a piece of the script, and answers the items that are whole.
-    pub fn take<E: Edge>(&mut self, piece: &[u8], edge: &mut E) -> Result<Flow, SinkError>
-        requires { self.old.reader.ended ≡ false }
+    pub fn take<E: Edge, P: PatternShop>(
+        &mut self,
+        piece: &[u8],
+        edge: &mut E,
+        shop: &mut P,
+    ) -> Result<Flow, SinkError>
+        ghost setting: { Setting }
+        requires ended { self.old.reader.ended ≡ false }
+        requires serves { Serves setting (named M.called M.image self.old.session.mappers.items) self.old.session.state }
         ensures on { result ≡ Ok Flow.On → Told ((E.seen edge.old).written) (λ written.
-            Progress false (self.old.reader.bytes ++ piece.now) self.new.reader.bytes self.old.session self.new.session (E.seen edge.old) written (E.seen edge.new)) }
+            Progress setting false (self.old.reader.bytes ++ piece.now) self.new.reader.bytes self.old.session.state.held self.new.session.state.held
+            (beside (E.seen edge.old) (P.refused shop.old)) written (beside (E.seen edge.new) (P.refused shop.new))) }
         ensures over { result ≡ Ok Flow.Over → Told ((E.seen edge.old).written) (λ written.
-            ProgressToQuit false (self.old.reader.bytes ++ piece.now) self.old.session (E.seen edge.old) written (E.seen edge.new)) }
+            ProgressToQuit setting false (self.old.reader.bytes ++ piece.now) self.old.session.state.held
+            (beside (E.seen edge.old) (P.refused shop.old)) written (beside (E.seen edge.new) (P.refused shop.new))) }
         ensures part { OnErr result (Told ((E.seen edge.old).written) (λ written.
-            ProgressInPart false (self.old.reader.bytes ++ piece.now) self.old.session (E.seen edge.old) written (E.seen edge.new))) }
+            ProgressInPart setting false (self.old.reader.bytes ++ piece.now) self.old.session.state.held
+            (beside (E.seen edge.old) (P.refused shop.old)) written (beside (E.seen edge.new) (P.refused shop.new)))) }
         ensures rest { result ≡ Ok Flow.On → IsRest false self.new.reader.bytes }
         ensures ended { self.new.reader.ended ≡ false }
+        ensures serves { Serves setting (named M.called M.image self.new.session.mappers.items) self.new.session.state }
         ensures counts { CountsSink result (E.seen edge.old) (E.seen edge.new) }
         ensures names { E.names edge.new ≡ E.names edge.old }
     {
         match self.reader.feed(piece) {
-            Ok(()) => self.answer(edge),
+            Ok(()) => self.answer(edge, shop),
             Err(_) => Err(SinkError::NoMemory),
         }
     }
 
     /// Answers what is left where the script has ended.
-    pub fn finish<E: Edge>(&mut self, edge: &mut E) -> Result<Flow, SinkError>
+    pub fn finish<E: Edge, P: PatternShop>(
+        &mut self,
+        edge: &mut E,
+        shop: &mut P,
+    ) -> Result<Flow, SinkError>
+        ghost setting: { Setting }
+        requires { Serves setting (named M.called M.image self.old.session.mappers.items) self.old.session.state }
         ensures on { result ≡ Ok Flow.On → Told ((E.seen edge.old).written) (λ written.
-            Progress true self.old.reader.bytes self.new.reader.bytes self.old.session self.new.session (E.seen edge.old) written (E.seen edge.new)) }
+            Progress setting true self.old.reader.bytes self.new.reader.bytes self.old.session.state.held self.new.session.state.held
+            (beside (E.seen edge.old) (P.refused shop.old)) written (beside (E.seen edge.new) (P.refused shop.new))) }
         ensures over { result ≡ Ok Flow.Over → Told ((E.seen edge.old).written) (λ written.
-            ProgressToQuit true self.old.reader.bytes self.old.session (E.seen edge.old) written (E.seen edge.new)) }
+            ProgressToQuit setting true self.old.reader.bytes self.old.session.state.held
+            (beside (E.seen edge.old) (P.refused shop.old)) written (beside (E.seen edge.new) (P.refused shop.new))) }
         ensures part { OnErr result (Told ((E.seen edge.old).written) (λ written.
-            ProgressInPart true self.old.reader.bytes self.old.session (E.seen edge.old) written (E.seen edge.new))) }
+            ProgressInPart setting true self.old.reader.bytes self.old.session.state.held
+            (beside (E.seen edge.old) (P.refused shop.old)) written (beside (E.seen edge.new) (P.refused shop.new)))) }
         ensures rest { result ≡ Ok Flow.On → IsRest true self.new.reader.bytes }
+        ensures serves { Serves setting (named M.called M.image self.new.session.mappers.items) self.new.session.state }
         ensures counts { CountsSink result (E.seen edge.old) (E.seen edge.new) }
         ensures names { E.names edge.new ≡ E.names edge.old }
     {
         self.reader.end();
-        self.answer(edge)
+        self.answer(edge, shop)
     }
 
     /// Answers each whole item that waits, up to a `quit`.
-    fn answer<E: Edge>(&mut self, edge: &mut E) -> Result<Flow, SinkError>
+    fn answer<E: Edge, P: PatternShop>(
+        &mut self,
+        edge: &mut E,
+        shop: &mut P,
+    ) -> Result<Flow, SinkError>
+        ghost setting: { Setting }
+        requires { Serves setting (named M.called M.image self.old.session.mappers.items) self.old.session.state }
         ensures on { result ≡ Ok Flow.On → Told ((E.seen edge.old).written) (λ written.
-            Progress self.old.reader.ended self.old.reader.bytes self.new.reader.bytes self.old.session self.new.session (E.seen edge.old) written (E.seen edge.new)) }
+            Progress setting self.old.reader.ended self.old.reader.bytes self.new.reader.bytes self.old.session.state.held self.new.session.state.held
+            (beside (E.seen edge.old) (P.refused shop.old)) written (beside (E.seen edge.new) (P.refused shop.new))) }
         ensures over { result ≡ Ok Flow.Over → Told ((E.seen edge.old).written) (λ written.
-            ProgressToQuit self.old.reader.ended self.old.reader.bytes self.old.session (E.seen edge.old) written (E.seen edge.new)) }
+            ProgressToQuit setting self.old.reader.ended self.old.reader.bytes self.old.session.state.held
+            (beside (E.seen edge.old) (P.refused shop.old)) written (beside (E.seen edge.new) (P.refused shop.new))) }
         ensures part { OnErr result (Told ((E.seen edge.old).written) (λ written.
-            ProgressInPart self.old.reader.ended self.old.reader.bytes self.old.session (E.seen edge.old) written (E.seen edge.new))) }
+            ProgressInPart setting self.old.reader.ended self.old.reader.bytes self.old.session.state.held
+            (beside (E.seen edge.old) (P.refused shop.old)) written (beside (E.seen edge.new) (P.refused shop.new)))) }
         ensures rest { result ≡ Ok Flow.On → IsRest self.old.reader.ended self.new.reader.bytes }
         ensures ended { self.new.reader.ended ≡ self.old.reader.ended }
+        ensures serves { Serves setting (named M.called M.image self.new.session.mappers.items) self.new.session.state }
         ensures counts { CountsSink result (E.seen edge.old) (E.seen edge.new) }
         ensures names { E.names edge.new ≡ E.names edge.old }
     {
@@ -104,7 +140,7 @@ impl Talk {
             if is_last(&next) {
                 return Ok(Flow::On);
             }
-            match answer_item(&mut self.session, next, edge)? {
+            match answer_item(&mut self.session, next, edge, shop)? {
                 Flow::On => {}
                 Flow::Over => return Ok(Flow::Over),
             }
@@ -120,19 +156,27 @@ fn is_last(next: &Next) -> bool
 }
 
 /// Answers what comes next.
-fn answer_item<E: Edge>(session: &mut Session, next: Next, edge: &mut E) -> Result<Flow, SinkError>
+fn answer_item<M: Mapper, E: Edge, P: PatternShop>(
+    session: &mut Session<M>,
+    next: Next,
+    edge: &mut E,
+    shop: &mut P,
+) -> Result<Flow, SinkError>
+    ghost setting: { Setting }
     requires one { IsLast next → ⊥ }
     requires said { IsSaidNext next }
+    requires serves { Serves setting (named M.called M.image session.old.mappers.items) session.old.state }
     ensures ok { IfOk result (λ flow. (item : Item) × (item_of next ≡ Some item) × Flows flow item × Told ((E.seen edge.old).written) (λ written.
-        Replied session.old item session.new (E.seen edge.old) written (E.seen edge.new))) }
+        Replied setting session.old.state.held item session.new.state.held (beside (E.seen edge.old) (P.refused shop.old)) written (beside (E.seen edge.new) (P.refused shop.new)))) }
     ensures part { OnErr result (Told ((E.seen edge.old).written) (λ written.
-        MatchOption (item_of next) (Leaves (E.seen edge.old) written [] ((E.seen edge.old).files) none_gained (E.seen edge.new))
-        (λ item. RepliedInPart session.old item (E.seen edge.old) written (E.seen edge.new)))) }
+        MatchOption (item_of next) (Leaves (beside (E.seen edge.old) (P.refused shop.old)) written [] ((E.seen edge.old).files) none_gained (beside (E.seen edge.new) (P.refused shop.new)))
+        (λ item. RepliedInPart setting session.old.state.held item (beside (E.seen edge.old) (P.refused shop.old)) written (beside (E.seen edge.new) (P.refused shop.new))))) }
+    ensures serves { Serves setting (named M.called M.image session.new.mappers.items) session.new.state }
     ensures counts { CountsSink result (E.seen edge.old) (E.seen edge.new) }
     ensures names { E.names edge.new ≡ E.names edge.old }
 {
     match next {
-        Next::Command(command) => answer_command(session, command, edge),
+        Next::Command(command) => answer_command(session, command, edge, shop),
         Next::Bad => write_then(edge, BAD_COMMAND.as_bytes(), Flow::On),
         Next::CutShort => write_then(edge, CUT_SHORT.as_bytes(), Flow::On),
         Next::NoMemory => Err(SinkError::NoMemory),
@@ -141,21 +185,25 @@ fn answer_item<E: Edge>(session: &mut Session, next: Next, edge: &mut E) -> Resu
 }
 
 /// Answers a command. Its reply is whole before its first byte is written.
-fn answer_command<E: Edge>(
-    session: &mut Session,
+fn answer_command<M: Mapper, E: Edge, P: PatternShop>(
+    session: &mut Session<M>,
     command: Command,
     edge: &mut E,
+    shop: &mut P,
 ) -> Result<Flow, SinkError>
-    requires { IsSaid (command_of command) }
+    ghost setting: { Setting }
+    requires said { IsSaid (command_of command) }
+    requires serves { Serves setting (named M.called M.image session.old.mappers.items) session.old.state }
     ensures ok { IfOk result (λ flow. Flows flow (Given (command_of command)) × Told ((E.seen edge.old).written) (λ written.
-        Replied session.old (Given (command_of command)) session.new (E.seen edge.old) written (E.seen edge.new))) }
+        Replied setting session.old.state.held (Given (command_of command)) session.new.state.held (beside (E.seen edge.old) (P.refused shop.old)) written (beside (E.seen edge.new) (P.refused shop.new)))) }
     ensures part { OnErr result (Told ((E.seen edge.old).written) (λ written.
-        RepliedInPart session.old (Given (command_of command)) (E.seen edge.old) written (E.seen edge.new))) }
+        RepliedInPart setting session.old.state.held (Given (command_of command)) (beside (E.seen edge.old) (P.refused shop.old)) written (beside (E.seen edge.new) (P.refused shop.new)))) }
+    ensures serves { Serves setting (named M.called M.image session.new.mappers.items) session.new.state }
     ensures counts { CountsSink result (E.seen edge.old) (E.seen edge.new) }
     ensures names { E.names edge.new ≡ E.names edge.old }
 {
     let flow = flow_behind(&command);
-    match session.step(command, edge) {
+    match session.step(command, edge, shop) {
         Reply::Refused(line) => write_then(edge, line.as_slice(), flow),
         Reply::Lines(lines) => write_then(edge, lines.as_slice(), flow),
         Reply::Last(line) => write_then(edge, line.as_slice(), flow),

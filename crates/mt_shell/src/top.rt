@@ -4,15 +4,19 @@ ghost use Rattle.std.specs.Prelude.{◌≡◌, ◌≢◌, ◌≤◌, ◌⊎◌, 
 ghost use Rattle.mt_outside.specs.Told.{Told};
 ghost use Rattle.mt_outside.specs.Faults.{Rose};
 ghost use Rattle.mt_session_spec.specs.Runs.{script_bytes_limit};
-ghost use Rattle.mt_session_spec.specs.World.{first_held};
-ghost use Rattle.mt_shell.specs.Outsides.{outside};
+ghost use Rattle.mt_segment.specs.Mappers.{named};
+ghost use Rattle.mt_session_spec.specs.Settings.{Setting};
+ghost use Rattle.mt_shell.specs.Outsides.{beside, outside};
+ghost use Rattle.mt_shell.specs.Serves.{Serves, first_kept, setting_of};
 ghost use Rattle.mt_shell.specs.Words.{AreGood};
 ghost use Rattle.mt_shell.specs.Ends.{EndsAs, FaultsAs, IsLong, IsTheAnswer, FinishesAs, FinishCounts};
 
 use super::edge::{Edge, Objects};
 use super::laws::ends_are_answers;
 use super::talk::{Flow, Talk};
+use mt_mapper::Mapper;
 use mt_outside::{Failed, Shelf, Sink, SinkError, Source};
+use mt_pattern::PatternShop;
 use std::alloc::Global;
 
 /// How a run ended.
@@ -28,7 +32,7 @@ pub enum Status {
     SinkFault,
     /// The script has more bytes than a script may have.
     ScriptTooLong,
-    /// Memory was wanted.
+    /// Out of memory.
     NoMemory,
 }
 
@@ -41,30 +45,32 @@ const BLOCK: usize = 65_536;
 /// Answers the script that the source gives, and writes each reply before more is read.
 ///
 /// The words are those of the command line behind the program's name.
-pub fn run<S: Source, K: Sink, F: Shelf>(
+pub fn run<M: Mapper, S: Source, K: Sink, F: Shelf, P: PatternShop>(
     alloc: Global,
     words: &[String],
     source: &mut S,
     sink: &mut K,
     shelf: &mut F,
+    shop: &mut P,
+    mappers: Vec<M>,
 ) -> Status
     // What is read and written: the replies to the script, as far as it was read, over the files of the shelf. The first fault of source or sink ends the run.
-    ensures ends { EndsAs result
-        (outside (S.left source.old) (S.faults source.old) (K.held sink.old) (K.faults sink.old) (F.files shelf.old) (F.failed shelf.old))
-        (outside (S.left source.new) (S.faults source.new) (K.held sink.new) (K.faults sink.new) (F.files shelf.new) (F.failed shelf.new)) }
+    ensures ends { EndsAs (setting_of (named M.called M.image mappers.items)) result
+        (outside (S.left source.old) (S.faults source.old) (K.held sink.old) (K.faults sink.old) (F.files shelf.old) (F.failed shelf.old) (P.refused shop.old))
+        (outside (S.left source.new) (S.faults source.new) (K.held sink.new) (K.faults sink.new) (F.files shelf.new) (F.failed shelf.new) (P.refused shop.new)) }
     ensures faults { FaultsAs result
-        (outside (S.left source.old) (S.faults source.old) (K.held sink.old) (K.faults sink.old) (F.files shelf.old) (F.failed shelf.old))
-        (outside (S.left source.new) (S.faults source.new) (K.held sink.new) (K.faults sink.new) (F.files shelf.new) (F.failed shelf.new)) }
+        (outside (S.left source.old) (S.faults source.old) (K.held sink.old) (K.faults sink.old) (F.files shelf.old) (F.failed shelf.old) (P.refused shop.old))
+        (outside (S.left source.new) (S.faults source.new) (K.held sink.new) (K.faults sink.new) (F.files shelf.new) (F.failed shelf.new) (P.refused shop.new)) }
     // Where the run is done, no call of the shelf failed and no reply wants memory, the bytes written are the one answer of the script.
-    ensures one { result ≡ Status.Done → IsTheAnswer
-        (outside (S.left source.old) (S.faults source.old) (K.held sink.old) (K.faults sink.old) (F.files shelf.old) (F.failed shelf.old))
-        (outside (S.left source.new) (S.faults source.new) (K.held sink.new) (K.faults sink.new) (F.files shelf.new) (F.failed shelf.new)) }
+    ensures one { result ≡ Status.Done → IsTheAnswer (setting_of (named M.called M.image mappers.items))
+        (outside (S.left source.old) (S.faults source.old) (K.held sink.old) (K.faults sink.old) (F.files shelf.old) (F.failed shelf.old) (P.refused shop.old))
+        (outside (S.left source.new) (S.faults source.new) (K.held sink.new) (K.faults sink.new) (F.files shelf.new) (F.failed shelf.new) (P.refused shop.new)) }
 
     // Each other end has its cause.
     ensures usage { (result ≡ Status.Usage) ↔ (AreGood words.now → ⊥) }
-    ensures untouched { result ≡ Status.Usage → (source.new ≡ source.old) × (sink.new ≡ sink.old) × (shelf.new ≡ shelf.old) }
+    ensures untouched { result ≡ Status.Usage → (source.new ≡ source.old) × (sink.new ≡ sink.old) × (shelf.new ≡ shelf.old) × (shop.new ≡ shop.old) }
     ensures is_long { result ≡ Status.ScriptTooLong → IsLong
-        (outside (S.left source.old) (S.faults source.old) (K.held sink.old) (K.faults sink.old) (F.files shelf.old) (F.failed shelf.old)) }
+        (outside (S.left source.old) (S.faults source.old) (K.held sink.old) (K.faults sink.old) (F.files shelf.old) (F.failed shelf.old) (P.refused shop.old)) }
     // With good words, no fault and a script that is not too long the run is done, or memory was wanted.
     ensures complete { AreGood words.now → (Rose (S.faults source.old) (S.faults source.new) → ⊥) → (Rose (K.faults sink.old) (K.faults sink.new) → ⊥) →
         Told (S.left source.old) (λ input. length input ≤ script_bytes_limit → (result ≡ Status.Done) ⊎ (result ≡ Status.NoMemory)) }
@@ -75,11 +81,11 @@ pub fn run<S: Source, K: Sink, F: Shelf>(
     let Ok(mut block) = vec![in alloc; 0; BLOCK] else {
         return Status::NoMemory;
     };
-    let Ok(mut talk) = Talk::new(alloc) else {
+    let Ok(mut talk) = Talk::new(alloc, mappers) else {
         return Status::NoMemory;
     };
     ends_are_answers();
-    converse_over(&mut talk, &mut block, source, sink, shelf)
+    converse_over(&mut talk, &mut block, source, sink, shelf, shop)
 }
 
 /// Whether the words of the command line are good.
@@ -90,24 +96,27 @@ fn are_good(words: &[String]) -> bool
 }
 
 /// Reads the script from the source and answers it to the sink, over the files of the shelf.
-fn converse_over<S: Source, K: Sink, F: Shelf>(
-    talk: &mut Talk,
+fn converse_over<M: Mapper, S: Source, K: Sink, F: Shelf, P: PatternShop>(
+    talk: &mut Talk<M>,
     block: &mut [u8],
     source: &mut S,
     sink: &mut K,
     shelf: &mut F,
+    shop: &mut P,
 ) -> Status
+    ghost setting: { Setting }
     requires reader { talk.old.reader ≡ record { bytes = []; ended = false } }
-    requires session { talk.old.session ≡ first_held }
+    requires state { talk.old.session.state ≡ first_kept }
+    requires serves { Serves setting (named M.called M.image talk.old.session.mappers.items) talk.old.session.state }
     requires block { length block.old ≡ BLOCK }
-    ensures ends { EndsAs result
-        (outside (S.left source.old) (S.faults source.old) (K.held sink.old) (K.faults sink.old) (F.files shelf.old) (F.failed shelf.old))
-        (outside (S.left source.new) (S.faults source.new) (K.held sink.new) (K.faults sink.new) (F.files shelf.new) (F.failed shelf.new)) }
+    ensures ends { EndsAs setting result
+        (outside (S.left source.old) (S.faults source.old) (K.held sink.old) (K.faults sink.old) (F.files shelf.old) (F.failed shelf.old) (P.refused shop.old))
+        (outside (S.left source.new) (S.faults source.new) (K.held sink.new) (K.faults sink.new) (F.files shelf.new) (F.failed shelf.new) (P.refused shop.new)) }
     ensures faults { FaultsAs result
-        (outside (S.left source.old) (S.faults source.old) (K.held sink.old) (K.faults sink.old) (F.files shelf.old) (F.failed shelf.old))
-        (outside (S.left source.new) (S.faults source.new) (K.held sink.new) (K.faults sink.new) (F.files shelf.new) (F.failed shelf.new)) }
+        (outside (S.left source.old) (S.faults source.old) (K.held sink.old) (K.faults sink.old) (F.files shelf.old) (F.failed shelf.old) (P.refused shop.old))
+        (outside (S.left source.new) (S.faults source.new) (K.held sink.new) (K.faults sink.new) (F.files shelf.new) (F.failed shelf.new) (P.refused shop.new)) }
     ensures is_long { result ≡ Status.ScriptTooLong → IsLong
-        (outside (S.left source.old) (S.faults source.old) (K.held sink.old) (K.faults sink.old) (F.files shelf.old) (F.failed shelf.old)) }
+        (outside (S.left source.old) (S.faults source.old) (K.held sink.old) (K.faults sink.old) (F.files shelf.old) (F.failed shelf.old) (P.refused shop.old)) }
     ensures good { result ≢ Status.Usage }
 {
     let mut objects = Objects {
@@ -115,17 +124,24 @@ fn converse_over<S: Source, K: Sink, F: Shelf>(
         sink,
         shelf,
     };
-    converse(talk, block, &mut objects)
+    converse(talk, block, &mut objects, shop)
 }
 
 /// Reads the script and answers it, up to its limit and one byte more.
-fn converse<E: Edge>(talk: &mut Talk, block: &mut [u8], edge: &mut E) -> Status
+fn converse<M: Mapper, E: Edge, P: PatternShop>(
+    talk: &mut Talk<M>,
+    block: &mut [u8],
+    edge: &mut E,
+    shop: &mut P,
+) -> Status
+    ghost setting: { Setting }
     requires reader { talk.old.reader ≡ record { bytes = []; ended = false } }
-    requires session { talk.old.session ≡ first_held }
+    requires state { talk.old.session.state ≡ first_kept }
+    requires serves { Serves setting (named M.called M.image talk.old.session.mappers.items) talk.old.session.state }
     requires block { length block.old ≡ BLOCK }
-    ensures ends { EndsAs result (E.seen edge.old) (E.seen edge.new) }
-    ensures faults { FaultsAs result (E.seen edge.old) (E.seen edge.new) }
-    ensures is_long { result ≡ Status.ScriptTooLong → IsLong (E.seen edge.old) }
+    ensures ends { EndsAs setting result (beside (E.seen edge.old) (P.refused shop.old)) (beside (E.seen edge.new) (P.refused shop.new)) }
+    ensures faults { FaultsAs result (beside (E.seen edge.old) (P.refused shop.old)) (beside (E.seen edge.new) (P.refused shop.new)) }
+    ensures is_long { result ≡ Status.ScriptTooLong → IsLong (beside (E.seen edge.old) (P.refused shop.old)) }
     ensures good { result ≢ Status.Usage }
     ensures names { E.names edge.new ≡ E.names edge.old }
 {
@@ -136,29 +152,36 @@ fn converse<E: Edge>(talk: &mut Talk, block: &mut [u8], edge: &mut E) -> Status
             return Status::SourceFault;
         };
         if n == 0 {
-            return finish(talk, edge);
+            return finish(talk, edge, shop);
         }
-        match talk.take(&block[..n], edge) {
+        match talk.take(&block[..n], edge, shop) {
             Ok(Flow::On) => taken += n,
             Ok(Flow::Over) => return Status::Done,
             Err(error) => return status_of(error),
         }
     }
     match edge.read(&mut block[..1]) {
-        Ok(0) => finish(talk, edge),
+        Ok(0) => finish(talk, edge, shop),
         Ok(_) => Status::ScriptTooLong,
         Err(Failed) => Status::SourceFault,
     }
 }
 
 /// Answers what is left where the script has ended.
-fn finish<E: Edge>(talk: &mut Talk, edge: &mut E) -> Status
+fn finish<M: Mapper, E: Edge, P: PatternShop>(
+    talk: &mut Talk<M>,
+    edge: &mut E,
+    shop: &mut P,
+) -> Status
+    ghost setting: { Setting }
+    requires { Serves setting (named M.called M.image talk.old.session.mappers.items) talk.old.session.state }
     ensures ends { Told ((E.seen edge.old).written) (λ written.
-        FinishesAs result talk.old.reader.bytes talk.old.session talk.new.session (E.seen edge.old) written (E.seen edge.new)) }
+        FinishesAs setting result talk.old.reader.bytes talk.old.session.state.held talk.new.session.state.held
+        (beside (E.seen edge.old) (P.refused shop.old)) written (beside (E.seen edge.new) (P.refused shop.new))) }
     ensures counts { FinishCounts result (E.seen edge.old) (E.seen edge.new) }
     ensures names { E.names edge.new ≡ E.names edge.old }
 {
-    match talk.finish(edge) {
+    match talk.finish(edge, shop) {
         Ok(Flow::On) => Status::Done,
         Ok(Flow::Over) => Status::Done,
         Err(error) => status_of(error),

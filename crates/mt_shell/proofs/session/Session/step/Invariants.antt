@@ -1,0 +1,16 @@
+use Rattle.mt_shell.proofs.session.Session.step.Given as goal
+
+abbrev pub ghost-set_registry : goal.ghost-set_registry
+ghost-set_registry g a = g.setting
+
+abbrev pub ghost-add_text : goal.ghost-add_text
+ghost-add_text g a = g.setting
+
+abbrev pub ghost-add_file : goal.ghost-add_file
+ghost-add_file g a = g.setting
+
+abbrev pub ghost-answer : goal.ghost-answer
+ghost-answer g a = g.setting
+
+abbrev pub ghost-segments : goal.ghost-segments
+ghost-segments g a = g.setting

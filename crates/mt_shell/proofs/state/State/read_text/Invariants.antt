@@ -1,0 +1,4 @@
+use Rattle.mt_shell.proofs.state.State.read_text.Given as goal
+
+abbrev pub ghost-keep_text : goal.ghost-keep_text
+ghost-keep_text g a = g.setting

@@ -1,0 +1,133 @@
+//! `text` and `add`.
+
+ghost use Rattle.std.specs.Prelude.{◌≡◌, ℕ, List};
+ghost use Rattle.mt_shelf_spec.specs.Files.{Files};
+ghost use Rattle.mt_text_spec.specs.Words.{IsName};
+ghost use Rattle.mt_text_spec.specs.Texts.{ValidText};
+ghost use Rattle.mt_segment.specs.Mappers.{named};
+ghost use Rattle.mt_script_spec.specs.Commands as spec;
+ghost use Rattle.mt_session_spec.specs.World.{Holds};
+ghost use Rattle.mt_session_spec.specs.Settings.{Setting};
+ghost use Rattle.mt_shell.specs.Fetches.{Finds, gained_of};
+ghost use Rattle.mt_shell.specs.Outsides.{beside};
+ghost use Rattle.mt_shell.specs.Serves.{Serves};
+ghost use Rattle.mt_shell.specs.Answers.{Answers, AnswersAlone, Stepped, KeepsText, ReadsText, over};
+
+use super::super::edge::Edge;
+use super::super::fetch::{Fetched, fetch};
+use super::State;
+use mt_answer::{Refusal, Reply, count_line, failed, refused};
+use mt_base::{Text, Value};
+use mt_mapper::Mapper;
+use mt_session_laws::held_is_valid;
+use mt_vertical::{TextError, no_text_with_fault, one_text, read_text, valid_texts};
+
+impl State {
+    /// `text`: holds the text that the body is, unless its name is taken.
+    pub fn add_text<M: Mapper>(&mut self, name: &Value, body: &[u8], mappers: &mut Vec<M>) -> Reply
+        ghost setting: { Setting }
+        requires named { IsName name.now }
+        requires serves { Serves setting (named M.called M.image mappers.old.items) self.old }
+        ensures means { AnswersAlone setting self.old.held (spec.Text name.now body.now) result self.new.held }
+        ensures serves { Serves setting (named M.called M.image mappers.new.items) self.new }
+    {
+        one_text();
+        no_text_with_fault();
+        if self.holds(name) {
+            return refused(self.alloc, &Refusal::NameTaken(name.as_str()));
+        }
+        self.read_text(name, body, mappers)
+    }
+
+    /// `add`: holds the text that the file is, unless its name is taken.
+    pub fn add_file<M: Mapper, E: Edge>(
+        &mut self,
+        name: &Value,
+        file: &Value,
+        mappers: &mut Vec<M>,
+        edge: &mut E,
+    ) -> Reply
+        ghost setting: { Setting }
+        requires named { IsName name.now }
+        requires serves { Serves setting (named M.called M.image mappers.old.items) self.old }
+        ensures means { (refused : List (List ℕ)) → Stepped setting self.old.held (spec.Add name.now file.now) result self.new.held (beside (E.seen edge.old) refused) (beside (E.seen edge.new) refused) }
+        ensures serves { Serves setting (named M.called M.image mappers.new.items) self.new }
+        ensures names { E.names edge.new ≡ E.names edge.old }
+    {
+        if self.holds(name) {
+            return refused(self.alloc, &Refusal::NameTaken(name.as_str()));
+        }
+        let fetched = fetch(self.alloc, file.as_str(), edge);
+        self.take_file(name, file, fetched, mappers)
+    }
+
+    /// Does with the file what was found of it.
+    fn take_file<M: Mapper>(
+        &mut self,
+        name: &Value,
+        file: &Value,
+        fetched: Fetched,
+        mappers: &mut Vec<M>,
+    ) -> Reply
+        ghost setting: { Setting }
+        requires named { IsName name.now }
+        requires free { Holds self.old.held name.now → ⊥ }
+        requires serves { Serves setting (named M.called M.image mappers.old.items) self.old }
+        ensures means { (files : Files) → Finds files file.now fetched →
+            Answers setting (over self.old.held files) (spec.Add name.now file.now) (gained_of file.now fetched) result (over self.new.held files) }
+        ensures serves { Serves setting (named M.called M.image mappers.new.items) self.new }
+    {
+        one_text();
+        no_text_with_fault();
+        let alloc = self.alloc;
+        match fetched {
+            Fetched::Whole(bytes) => self.read_text(name, bytes.as_slice(), mappers),
+            Fetched::Absent => refused(alloc, &Refusal::NoSuchFile(file.as_str())),
+            Fetched::TooLong => refused(alloc, &Refusal::FileTooLong(file.as_str())),
+            Fetched::Failed => failed(alloc, file),
+            Fetched::NoMemory => Reply::NoMemory,
+        }
+    }
+
+    /// Reads the text that these bytes are, and keeps it.
+    fn read_text<M: Mapper>(&mut self, name: &Value, bytes: &[u8], mappers: &mut Vec<M>) -> Reply
+        ghost setting: { Setting }
+        requires named { IsName name.now }
+        requires free { Holds self.old.held name.now → ⊥ }
+        requires serves { Serves setting (named M.called M.image mappers.old.items) self.old }
+        ensures means { ReadsText self.old.held name.now bytes.now result self.new.held }
+        ensures serves { Serves setting (named M.called M.image mappers.new.items) self.new }
+    {
+        valid_texts();
+        let Ok(own_name) = name.copy(self.alloc) else {
+            return Reply::NoMemory;
+        };
+        match read_text(self.alloc, own_name, bytes, self.corpus.registry()) {
+            Ok(text) => self.keep_text(text, mappers),
+            Err(TextError::Bad(line)) => refused(self.alloc, &Refusal::BadVertical(line)),
+            Err(TextError::NoMemory) => Reply::NoMemory,
+        }
+    }
+
+    /// Keeps a text behind the others, where there is room. The reply is made first.
+    fn keep_text<M: Mapper>(&mut self, text: Text, mappers: &mut Vec<M>) -> Reply
+        ghost setting: { Setting }
+        requires free { Holds self.old.held text.name → ⊥ }
+        requires valid { ValidText self.old.held.registry text }
+        requires serves { Serves setting (named M.called M.image mappers.old.items) self.old }
+        ensures means { KeepsText self.old.held text result self.new.held }
+        ensures serves { Serves setting (named M.called M.image mappers.new.items) self.new }
+    {
+        held_is_valid();
+        if self.corpus.is_full(text.len()) {
+            return refused(self.alloc, &Refusal::CorpusFull);
+        }
+        let Ok(line) = count_line(self.alloc, "ok", text.len() as u128) else {
+            return Reply::NoMemory;
+        };
+        match self.corpus.add(text, mappers) {
+            Ok(()) => Reply::Lines(line),
+            Err(_) => Reply::NoMemory,
+        }
+    }
+}
