@@ -56,7 +56,12 @@ class Walk:
             definition = sources.code_type(crate, path, name)
             self.found[definition.place] = definition
         else:
-            definition = sources.module_of(crate, path).definition_of(name)
+            module = sources.module_of(crate, path)
+            definition = module.definition_of(name)
+            if definition is None and name in module.imports:
+                # a name that the file hands on by `pub use`
+                self.take(*module.imports[name])
+                return
             if definition is None:
                 raise SystemExit(f'{crate}, {path}: there is no definition {name}')
             if definition.place not in self.found:

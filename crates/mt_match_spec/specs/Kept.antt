@@ -88,6 +88,7 @@ Spans images registry corpus query = ListsAll span_cmp (IsSpan images registry c
 abbrev pub operand_rows_limit : ℕ
 operand_rows_limit = 4194304
 
+-- an expression has more rows over all texts than it may
 pub record HasTooMany (images : Images) (registry : Registry) (corpus : List Text) (expr : Expr) : Type 0 where
   pub rows : List Row
   pub are : Rows images registry corpus expr rows
