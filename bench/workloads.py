@@ -39,3 +39,43 @@ def counts(path, seed, queries):
         out.write("add corpus vertical\n")
         for number in words(seed, queries):
             out.write(f'count [lemma=="w{number}"]\n')
+
+
+def draws(seed):
+    """Yields the numbers of the engine's generator of texts: a linear congruential one of 64 bits, of which each draw gives the upper 31."""
+    state = seed
+    while True:
+        state = (state * 6364136223846793005 + 1442695040888963407) % 2**64
+        yield state >> 33
+
+
+def generated(path, name, seed, tokens):
+    """Writes the vertical of a generated text: sentences of ten tokens, few common lemmas and many rare ones, and a tag that follows from the lemma."""
+    draw = draws(seed)
+    with open(path, "w", encoding="utf-8") as out:
+        out.write(f'<doc id="{name}">\n')
+        for place in range(tokens):
+            if place % 10 == 0:
+                out.write(("</s>\n" if place else "") + "<s>\n")
+            first, second, third = next(draw), next(draw), next(draw)
+            lemma = (first % 1000) * (second % 1000) // 1000
+            out.write(f"l{lemma}{'s' * (third % 2)}\t{'NJVD'[lemma % 4]}\tl{lemma}\n")
+        out.write(("</s>\n" if tokens else "") + "</doc>\n")
+
+
+def many_texts(path, texts, tokens):
+    """Writes a script of so many texts of a few tokens, each a segment of its own."""
+    draw = draws(5)
+    with open(path, "w", encoding="utf-8") as out:
+        for number in range(texts):
+            out.write(f"text t{number} {tokens}\n")
+            for _ in range(tokens):
+                lemma = (next(draw) % 1000) * (next(draw) % 1000) // 1000
+                out.write(f"l{lemma}\t{'NJVD'[lemma % 4]}\tl{lemma}\n")
+
+
+def asked(path, begin, questions):
+    """Writes a script that begins with what another file has, and then asks questions."""
+    with open(begin, "rb") as front, open(path, "wb") as out:
+        out.write(front.read())
+        out.writelines(f"{question}\n".encode() for question in questions)
