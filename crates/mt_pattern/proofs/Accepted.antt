@@ -23,3 +23,9 @@ each_accepted values text whole lexicons (Err e) is alone both h = h
 each_accepted values text whole lexicons (Ok sets) is alone both h =
     subst (λ (sets : List (List Bool)). AllZip (λ x marks. MarksAccepted text (values x) marks) lexicons sets) (sym h)
     (pairs_of (λ x. map (finds whole) (values x)) (λ x marks. MarksAccepted text (values x) marks) lexicons (λ x. accepted text whole (values x) _ is alone both refl))
+
+-- the same of one lexicon, if there is memory
+pub if_accepted : {E : Type 0} (text whole : List ℕ) (lexicon : List (List ℕ)) (result : Result (List Bool) E) → whole ≡ wrapped text → IsPattern text → IsPattern (wrapped text) →
+    IfOk result (λ marks. marks ≡ map (finds whole) lexicon) → IfOk result (λ marks. MarksAccepted text lexicon marks)
+if_accepted text whole lexicon (Err e) is alone both h = h
+if_accepted text whole lexicon (Ok marks) is alone both h = accepted text whole lexicon marks is alone both h

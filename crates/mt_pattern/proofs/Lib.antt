@@ -1,5 +1,6 @@
 pub mod Accepted
 pub mod Bits
+pub mod KnownValues
 pub mod Marked
 pub mod PlainMarks
 pub mod PlainMatching

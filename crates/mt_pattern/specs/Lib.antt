@@ -2,3 +2,4 @@ pub mod Marks
 pub mod Plain
 pub mod Shops
 pub mod Searches
+pub mod Known

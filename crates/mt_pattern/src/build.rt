@@ -1,17 +1,22 @@
 //! Patterns that are to match whole values, and the values that they accept.
 
 ghost use Rattle.std.specs.List.{AllZip};
-ghost use Rattle.std.specs.Prelude.{◌≡◌, string_bytes, IfOk, OnOk, IsErrOf};
-ghost use Rattle.mt_pattern_spec.specs.Patterns.{IsPattern, MayBeNoPattern, MarksAccepted, wrapped};
+ghost use Rattle.std.specs.Prelude.{◌≡◌, map, string_bytes, IfOk, OnOk, IsErrOf};
+ghost use Rattle.mt_pattern_spec.specs.Patterns.{IsPattern, MayBeNoPattern, MarksAccepted, finds, wrapped};
 ghost use Rattle.mt_pattern.specs.Shops.{RefusedOne};
 
 use super::id_set::IdSet;
-use super::plain::{is_plain, mark_itself_in_each};
+use super::known::{keep, recalled};
+use super::plain::{is_plain, mark_itself, mark_itself_in_each};
 use super::shop::{PatternShop, ShopError};
 use mt_base::{List, NoMemory, Value};
 use mt_lexicon::Lexicon;
 use std::alloc::Global;
+use std::collections::HashMap;
 use std::marker::Model;
+
+/// A lexicon with more values is searched anew: what the shop makes for it costs little beside them.
+const FEW_VALUES: u32 = 256;
 
 /// Why there is no set of numbers.
 #[derive(Clone, Copy, Debug, PartialEq, Eq, Drop)]
@@ -51,22 +56,25 @@ impl From<ShopError> for IdsError {
 }
 
 /// A pattern that is to match whole values: a text that is a pattern, also between marks for a value's start and end, and what a shop
-/// built of it there. It is built once and then asked of as many lexicons as there are. Contracts see it as the text.
+/// built of it there. It is built once and then asked of as many lexicons as there are, and keeps what it answers for the values of small ones.
+/// Contracts see it as the text.
 #[derive(Drop)]
 pub struct WholePattern<P: PatternShop> {
     text: Value,
     whole: P::Pattern,
+    known: HashMap<String, bool>,
 }
 
 impl<P: PatternShop> Model for WholePattern<P> {
     ghost use Rattle.std.specs.Prelude.{◌≡◌, ℕ, List};
-    ghost use Rattle.mt_pattern_spec.specs.Patterns.{IsPattern, wrapped};
+    ghost use Rattle.mt_pattern_spec.specs.Patterns.{IsPattern, finds, wrapped};
+    ghost use Rattle.mt_pattern.specs.Known.{AreKnown};
 
     ghost Value = { List ℕ };
 
     ghost view = { λ w. w.text };
 
-    ghost invariant = { λ w. IsPattern w.text × IsPattern (wrapped w.text) × (P.text_of w.whole ≡ wrapped w.text) };
+    ghost invariant = { λ w. IsPattern w.text × IsPattern (wrapped w.text) × (P.text_of w.whole ≡ wrapped w.text) × AreKnown (finds (wrapped w.text)) w.known };
 }
 
 impl<P: PatternShop> WholePattern<P> {
@@ -83,20 +91,29 @@ impl<P: PatternShop> WholePattern<P> {
         let marked = in_marks(alloc, text)?;
         let whole = shop.build(alloc, marked.as_str())?;
         let text = Value::new(alloc, text)?;
-        Ok(WholePattern { text, whole })
+        let known = HashMap::new(alloc);
+        Ok(WholePattern { text, whole, known })
     }
 
-    /// The numbers of the values that the pattern accepts.
+    /// The numbers of the values that the pattern accepts. A text of plain characters accepts itself alone, and is looked up; where it is kept of
+    /// all values whether they are accepted, the shop is not asked.
     pub fn ids(&mut self, alloc: Global, lexicon: &Lexicon, shop: &mut P) -> Result<IdSet, NoMemory>
         ensures marks { IfOk result (λ marks. MarksAccepted self.old lexicon.now marks) }
         ensures text { self.new ≡ self.old }
         ensures kept { P.refused shop.new ≡ P.refused shop.old }
     {
-        let sets = self.ids_of_each(alloc, &[lexicon], shop)?;
-        match sets.into_vec().pop() {
-            Some(marks) => Ok(marks),
-            None => unreachable!(),
+        if is_plain(self.text.as_str()) {
+            return mark_itself(alloc, lexicon, &self.text);
         }
+        if lexicon.len() > FEW_VALUES {
+            return answered(alloc, &mut self.whole, lexicon, shop);
+        }
+        if let Some(marks) = recalled(alloc, &self.known, lexicon)? {
+            return Ok(marks);
+        }
+        let marks = answered(alloc, &mut self.whole, lexicon, shop)?;
+        keep(alloc, &mut self.known, lexicon, &marks)?;
+        Ok(marks)
     }
 
     /// The numbers of the values of each lexicon that the pattern accepts. A text of plain characters accepts itself alone, and is looked
@@ -115,6 +132,24 @@ impl<P: PatternShop> WholePattern<P> {
             return mark_itself_in_each(alloc, lexicons, &self.text);
         }
         shop.accepts_each(alloc, &mut self.whole, lexicons)
+    }
+}
+
+/// Marks the values of a lexicon in which a shop's pattern has a match.
+fn answered<P: PatternShop>(
+    alloc: Global,
+    pattern: &mut P::Pattern,
+    lexicon: &Lexicon,
+    shop: &mut P,
+) -> Result<IdSet, NoMemory>
+    ensures found { IfOk result (λ marks. marks ≡ map (finds (P.text_of pattern.old)) lexicon.now) }
+    ensures text { P.text_of pattern.new ≡ P.text_of pattern.old }
+    ensures kept { P.refused shop.new ≡ P.refused shop.old }
+{
+    let sets = shop.accepts_each(alloc, pattern, &[lexicon])?;
+    match sets.into_vec().pop() {
+        Some(marks) => Ok(marks),
+        None => unreachable!(),
     }
 }
 

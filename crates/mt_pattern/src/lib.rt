@@ -8,6 +8,7 @@
 mod build;
 mod fussy;
 mod id_set;
+mod known;
 mod plain;
 mod regexes;
 mod shop;

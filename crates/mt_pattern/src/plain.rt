@@ -42,7 +42,7 @@ pub fn mark_itself_in_each(
 }
 
 /// Marks the value that such a text is, where the lexicon has it.
-fn mark_itself(alloc: Global, lexicon: &Lexicon, text: &Value) -> Result<IdSet, NoMemory>
+pub(crate) fn mark_itself(alloc: Global, lexicon: &Lexicon, text: &Value) -> Result<IdSet, NoMemory>
     requires utf8 { IsUtf8 text.now }
     requires plain { AllPass is_plain_byte text.now }
     requires alone { IsPattern text.now }
