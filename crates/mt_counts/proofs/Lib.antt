@@ -6,3 +6,7 @@ pub mod Numbering
 pub mod Moves
 pub mod Sums
 pub mod Lists
+pub mod Keys
+pub mod Taking
+pub mod Seconds
+pub mod Ascending

@@ -81,19 +81,19 @@ lists_both {X} P Q R xs ys first second p q either apart = record {
 
 -- ---- texts
 
-bytes_same : (a b : List ℕ) → bytes_eq a b ≡ true → a ≡ b
+pub bytes_same : (a b : List ℕ) → bytes_eq a b ≡ true → a ≡ b
 bytes_same a b h = (bytes_decides a b).0 h
 
-bytes_own : (a : List ℕ) → bytes_eq a a ≡ true
+pub bytes_own : (a : List ℕ) → bytes_eq a a ≡ true
 bytes_own a = (bytes_decides a a).1 refl
 
-same_text : (texts : List (List ℕ)) (a b : ℕ) → AreDistinct texts → a < length texts → b < length texts → text_at texts a ≡ text_at texts b → a ≡ b
+pub same_text : (texts : List (List ℕ)) (a b : ℕ) → AreDistinct texts → a < length texts → b < length texts → text_at texts a ≡ text_at texts b → a ≡ b
 same_text texts a b distinct l m e = distinct (text_at texts b) a b (slice_get-get_or texts a [] l ∙ ap Some e) (slice_get-get_or texts b [] m)
 
-two_same : (name word : List ℕ) (key : List ℕ × List ℕ) → is_two name word key ≡ true → (name ≡ key.0) × (word ≡ key.1)
+pub two_same : (name word : List ℕ) (key : List ℕ × List ℕ) → is_two name word key ≡ true → (name ≡ key.0) × (word ≡ key.1)
 two_same name word key h = let parts = and_parts (bytes_eq name key.0) (bytes_eq word key.1) h in (bytes_same name key.0 parts.0, bytes_same word key.1 parts.1)
 
-two_own : (name word : List ℕ) → is_two name word (name, word) ≡ true
+pub two_own : (name word : List ℕ) → is_two name word (name, word) ≡ true
 two_own name word = and_from (bytes_eq name name) (bytes_eq word word) (bytes_own name) (bytes_own word)
 
 -- some key that passes has a count
@@ -247,7 +247,7 @@ places_within entries x places items all e k l =
 
 -- ---- a word that has no number stands nowhere
 
-unnamed : (names words : List (List ℕ)) (entries : List ((ℕ × ℕ) × ℕ)) (name word : List ℕ) → HasKeysBelow (length words) (length names) entries → ((number : ℕ) → slice_get words number ≡ Some word → ⊥) →
+pub unnamed : (names words : List (List ℕ)) (entries : List ((ℕ × ℕ) × ℕ)) (name word : List ℕ) → HasKeysBelow (length words) (length names) entries → ((number : ℕ) → slice_get words number ≡ Some word → ⊥) →
     0 < total (is_two name word) (map (λ e. (named_word names words e.0, e.1)) entries) → ⊥
 unnamed names words entries name word below none l =
     let test : List ℕ × List ℕ → Bool = is_two name word in

@@ -30,18 +30,18 @@ text_moved : (old new : List (List ℕ)) (numbers : List ℕ) (n : ℕ) → AreR
 text_moved old new numbers n h l = get_or_from_slice_get new (get_or numbers n 0) (text_at old n) [] (h.each n (text_at old n) (slice_get-get_or old n [] l))
 
 -- the row with a number is what stands there
-row_stands : (rows : List ((ℕ × ℕ) × ℕ)) (n : ℕ) → n < length rows → IsAt rows (row_at (keys_of rows) n) n
+pub row_stands : (rows : List ((ℕ × ℕ) × ℕ)) (n : ℕ) → n < length rows → IsAt rows (row_at (keys_of rows) n) n
 row_stands rows n l =
     let entry = get_or rows n ((0, 0), 0) in
     record { count = entry.1; there = slice_get-get_or rows n ((0, 0), 0) l ∙ ap (λ (k : ℕ × ℕ). Some (k, entry.1)) (sym (get_or-keys rows n (0, 0) 0)) }
 
-row_is : (rows : List ((ℕ × ℕ) × ℕ)) (n : ℕ) (key : ℕ × ℕ) → IsAt rows key n → row_at (keys_of rows) n ≡ key
+pub row_is : (rows : List ((ℕ × ℕ) × ℕ)) (n : ℕ) (key : ℕ × ℕ) → IsAt rows key n → row_at (keys_of rows) n ≡ key
 row_is rows n key at = get_or-keys rows n (0, 0) 0 ∙ ap (λ (e : (ℕ × ℕ) × ℕ). e.0) (get_or_from_slice_get rows n (key, at.count) ((0, 0), 0) at.there)
 
 row_grown : (old new : List ((ℕ × ℕ) × ℕ)) (n : ℕ) → Grows old new → n < length old → row_at (keys_of new) n ≡ row_at (keys_of old) n
 row_grown old new n h l = row_is new n (row_at (keys_of old) n) (grows_at old new (row_at (keys_of old) n) n h (row_stands old n l))
 
-stands : {K : Type 0} (es : List (K × ℕ)) (key : K) (n k : ℕ) → slice_get es k ≡ Some (key, n) → IsAt es key k
+pub stands : {K : Type 0} (es : List (K × ℕ)) (key : K) (n k : ℕ) → slice_get es k ≡ Some (key, n) → IsAt es key k
 stands es key n k e = record { count = n; there = e }
 
 -- ---- names and words are added, and pairs without a count

@@ -24,13 +24,21 @@ three_of names words rows key = (text_at names (row_at rows key.0).1, text_at wo
 abbrev pub named_word : (names words : List (List ℕ)) → ℕ × ℕ → List ℕ × List ℕ
 named_word names words key = (text_at names key.1, text_at words key.0)
 
+-- counts of pairs of a word and a name, under their texts
+abbrev pub by_name : (names words : List (List ℕ)) → List ((ℕ × ℕ) × ℕ) → List ((List ℕ × List ℕ) × ℕ)
+by_name names words entries = map (λ e. (named_word names words e.0, e.1)) entries
+
+-- counts of pairs of a row and a second word, under their texts
+abbrev pub by_row : (names words : List (List ℕ)) (rows : List (ℕ × ℕ)) → List ((ℕ × ℕ) × ℕ) → List ((List ℕ × List ℕ × List ℕ) × ℕ)
+by_row names words rows entries = map (λ e. (three_of names words rows e.0, e.1)) entries
+
 -- what the tables count
 abbrev pub counted : Tables → Counted
 counted t = record {
-  both = map (λ e. (three_of t.names t.words (keys_of t.rows) e.0, e.1)) t.both;
-  first = map (λ e. (named_word t.names t.words e.0, e.1)) t.rows;
-  second = map (λ e. (named_word t.names t.words e.0, e.1)) t.columns;
-  alone = map (λ e. (named_word t.names t.words e.0, e.1)) t.alone;
+  both = by_row t.names t.words (keys_of t.rows) t.both;
+  first = by_name t.names t.words t.rows;
+  second = by_name t.names t.words t.columns;
+  alone = by_name t.names t.words t.alone;
 }
 
 -- each number is that of a name, of a word or of a row

@@ -25,6 +25,11 @@ pub record IsPlaced (entries : List ((ℕ × ℕ) × ℕ)) (group place : ℕ) :
   pub there : slice_get entries place ≡ Some ((group, member), count)
   pub some : 0 < count
 
+-- the group has a pair with a count above 0
+pub record HasPlaced (entries : List ((ℕ × ℕ) × ℕ)) (group : ℕ) : Type 0 where
+  pub place : ℕ
+  pub is : IsPlaced entries group place
+
 -- a list of everything that P holds of and of nothing else, each once
 pub record ListsOnce {X : Type 0} (P : X → Type 0) (all : List X) : Type 0 where
   pub once : AllPairs (λ x y. x ≢ y) all

@@ -6,13 +6,16 @@
 mod builder;
 mod counts;
 mod listing;
+mod lowering;
 mod names;
+mod pairs;
 mod tables;
 mod tally;
 
 pub use builder::Counting;
 pub use counts::Counts;
 pub use listing::Head;
+pub use pairs::Pair;
 
 fn shared<T: Send + Sync>() {}
 
@@ -21,4 +24,5 @@ pub fn are_shared() {
     shared::<Counts>();
     shared::<Counting>();
     shared::<Head>();
+    shared::<Pair>();
 }

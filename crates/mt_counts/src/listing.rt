@@ -1,7 +1,7 @@
 //! What stands with a word.
 
 ghost use Rattle.std.specs.Prelude.{◌≡◌, ℕ, ◌<◌, ◌++◌, length, map, slice_index, IfOk, OnOk};
-ghost use Rattle.mt_counts.specs.Listed.{IsHead, head_at};
+ghost use Rattle.mt_counts.specs.Listed.{AreFirstWords, IsHead, StandsFirst, head_at};
 ghost use Rattle.mt_counts.specs.Tables.{AreInside, counted, text_at};
 ghost use Rattle.mt_counts.specs.Tallies.{IsAt, ListsOnce};
 
@@ -33,9 +33,34 @@ impl Counts {
             None => Ok(List::new(alloc)),
         }
     }
+
+    /// The words that stand somewhere as a first one, ascending by their bytes, each once.
+    pub fn words(&self, alloc: Global) -> Result<List<Value>, NoMemory>
+        ensures { IfOk result (λ words. AreFirstWords self.now words) }
+    {
+        let mut words = self.tables.first_words(alloc)?;
+        words.sort_unstable();
+        Ok(words)
+    }
 }
 
 impl Tables {
+    /// The words that have rows with counts.
+    fn first_words(&self, alloc: Global) -> Result<List<Value>, NoMemory>
+        requires { AreInside self.now }
+        ensures { IfOk result (λ words. ListsOnce (StandsFirst (counted self.now)) words) }
+    {
+        self.names.len();
+        self.rows.len();
+        let mut words = List::new(alloc);
+        for x in 0..self.words.len() {
+            if self.rows.has(x as u32) {
+                words.push(self.words.get(x).copy(alloc)?)?;
+            }
+        }
+        Ok(words)
+    }
+
     /// The names under which the word with a number stands.
     fn heads(&self, alloc: Global, word: u32) -> Result<List<Head>, NoMemory>
         requires inside { AreInside self.now }

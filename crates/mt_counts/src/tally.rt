@@ -1,9 +1,9 @@
 //! Counts by pairs of numbers.
 
-ghost use Rattle.std.specs.Prelude.{◌≡◌, ℕ, ◌+◌, ◌-◌, ◌^◌, ◌<◌, ◌≤◌, [], length, slice_get, slice_index, Some, IfOk, IfSome, IfNone, OnErr, OnOk};
+ghost use Rattle.std.specs.Prelude.{◌≡◌, ℕ, ◌+◌, ◌-◌, ◌^◌, ◌<◌, ◌≤◌, [], length, slice_get, slice_index, Some, IfOk, IfSome, IfNone, IsFalse, IsTrue, OnErr, OnOk};
 ghost use Rattle.std.specs.Map.{keys_of};
-ghost use Rattle.mt_counts.specs.Tallies.{AreAdded, AreBelow, AreMoved, AreOnce, Grows, HasKeysBelow, HavePlaces, IsAt, IsCounted, IsPlaced, IsRaised, ListsOnce};
-ghost use Rattle.mt_counts.specs.Totals.{total_of_all};
+ghost use Rattle.mt_counts.specs.Tallies.{AreAdded, AreBelow, AreMoved, AreOnce, Grows, HasKeysBelow, HasPlaced, HavePlaces, IsAt, IsCounted, IsPlaced, IsRaised, ListsOnce};
+ghost use Rattle.mt_counts.specs.Totals.{IsLowered, count_at, total_of_all};
 
 use indexmap::IndexMap;
 use mt_base::NoMemory;
@@ -83,6 +83,19 @@ impl Tally {
             None => None,
         }
     }
+
+    /// The count of a pair, 0 where it has no place.
+    pub(crate) fn count_of(&self, group: u32, member: u32) -> u64
+        ensures count { result ≡ count_at self.now (group, member) }
+        ensures once { AreOnce self.now }
+    {
+        self.len();
+        match self.find(group, member) {
+            Some(place) => self.get(place as usize).1,
+            None => 0,
+        }
+    }
+
     /// The place of a pair. A new pair has the count 0.
     pub(crate) fn place(&mut self, group: u32, member: u32) -> Result<u32, NoMemory>
         ensures grows { Grows self.old self.new }
@@ -156,6 +169,19 @@ impl Tally {
         self.sum -= by;
     }
 
+    /// Takes so much from the count of a pair, and no more than it has. It takes no memory.
+    pub(crate) fn lower_key(&mut self, group: u32, member: u32, by: u64)
+        ensures keys { keys_of self.new ≡ keys_of self.old }
+        ensures lowered { by ≤ count_at self.old (group, member) → IsLowered (group, member) by self.old self.new }
+    {
+        let count = self.count_of(group, member);
+        match self.find(group, member) {
+            Some(place) if by <= count => self.lower(place as usize, by),
+            Some(place) => self.lower(place as usize, count),
+            None => {}
+        }
+    }
+
     /// The place here of each pair of another tally, where its groups and members have these numbers.
     pub(crate) fn places_of(
         &mut self,
@@ -189,6 +215,22 @@ impl Tally {
             let (_, count) = other.get(k);
             self.raise(places[k] as usize, count);
         }
+    }
+
+    /// Whether a pair of the group has a count that is not 0.
+    pub(crate) fn has(&self, group: u32) -> bool
+        ensures some { IsTrue result → HasPlaced self.now group }
+        ensures none { IsFalse result → HasPlaced self.now group → ⊥ }
+    {
+        let mut below = end_at(self.ends.as_slice(), group as usize);
+        while below > 0 {
+            let place = below - 1;
+            if self.get(place as usize).1 > 0 {
+                return true;
+            }
+            below = self.belows[place as usize];
+        }
+        false
     }
 
     /// The places of the pairs of a group whose counts are not 0.
