@@ -1,2 +1,4 @@
 pub mod Grammars
+pub mod InOrder
 pub mod Readings
+pub mod Valid

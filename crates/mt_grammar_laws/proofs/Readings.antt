@@ -53,11 +53,11 @@ all_faultless registry bytes none = no_causes registry bytes [] (lines_of regist
 -- ## And then it is read
 
 -- the items of a list that pass a test, one by one
-abbrev Passed : {X : Type 0} → (P : X → Type 0) → List X → Type 0
+abbrev pub Passed : {X : Type 0} → (P : X → Type 0) → List X → Type 0
 Passed P [] = Unit {0}
 Passed P (x ∷ xs) = P x × Passed P xs
 
-passed_first : {X : Type 0} (p : X → Bool) (P : X → Type 0) (xs : List X) → Passed P xs → Passed (λ x. P x × (p x ≡ true)) (filter p xs)
+pub passed_first : {X : Type 0} (p : X → Bool) (P : X → Type 0) (xs : List X) → Passed P xs → Passed (λ x. P x × (p x ≡ true)) (filter p xs)
 passed_first p P [] h = tt
 passed_first {X} p P (x ∷ xs) h = by (p x) refl (passed_first p P xs h.1)
   where
@@ -65,14 +65,14 @@ passed_first {X} p P (x ∷ xs) h = by (p x) refl (passed_first p P xs h.1)
     by true e rest = rw e ((h.0, e), rest)
     by false e rest = rw e rest
 
-passed_weaker : {X : Type 0} (P Q : X → Type 0) (xs : List X) → ((x : X) → P x → Q x) → Passed P xs → Passed Q xs
+pub passed_weaker : {X : Type 0} (P Q : X → Type 0) (xs : List X) → ((x : X) → P x → Q x) → Passed P xs → Passed Q xs
 passed_weaker P Q [] f h = tt
 passed_weaker P Q (x ∷ xs) f h = (f x h.0, passed_weaker P Q xs f h.1)
 
-abbrev Clean : Registry → Line → Type 0
+abbrev pub Clean : Registry → Line → Type 0
 Clean registry line = (cause : GrammarCause) → HasCause registry line cause → ⊥
 
-clean_all : (registry : Registry) (all : List Line) → IsFaultless registry all → Passed (Clean registry) all
+pub clean_all : (registry : Registry) (all : List Line) → IsFaultless registry all → Passed (Clean registry) all
 clean_all registry [] h = tt
 clean_all registry (line ∷ all) h = (λ cause c. h line cause (0, omega arith, refl) c, clean_all registry all (λ other cause m c. h other cause (suc m.0, omega (arith, m.1), m.2) c))
 

@@ -1,9 +1,10 @@
 -- A grammar file has one answer.
 use Rattle.std.specs.Prelude.{◌≡◌, ℕ, List}
-use Rattle.mt_text_spec.specs.Registries.{Registry}
+use Rattle.mt_text_spec.specs.Registries.{Registry, ValidRegistry}
 use Rattle.mt_text_spec.specs.Queries.{Grammar}
 use Rattle.mt_grammar_spec.specs.GrammarFile.{GrammarCause, FirstGrammarFault}
 use Rattle.mt_grammar_spec.specs.ReadGrammar.{ReadsGrammar, LacksRelation}
+use Rattle.mt_grammar_spec.specs.ValidGrammar.{ValidGrammar}
 
 -- a file is read as at most one grammar
 abbrev pub OneGrammar : Type 0
@@ -24,3 +25,7 @@ pub record AreApart : Type 0 where
 abbrev pub SomeAnswer : Type 0
 SomeAnswer = (registry : Registry) (bytes : List ℕ) → ((grammar : Grammar) → ReadsGrammar registry bytes grammar → ⊥) → (LacksRelation registry bytes → ⊥) →
     ((number : ℕ) (cause : GrammarCause) → FirstGrammarFault registry bytes number cause → ⊥) → ⊥
+
+-- a grammar that is read is valid
+abbrev pub ReadGrammarIsValid : Type 0
+ReadGrammarIsValid = (registry : Registry) (bytes : List ℕ) (grammar : Grammar) → ValidRegistry registry → ReadsGrammar registry bytes grammar → ValidGrammar registry grammar

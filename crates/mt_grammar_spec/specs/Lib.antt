@@ -1,3 +1,4 @@
 pub mod GrammarLines
 pub mod GrammarFile
 pub mod ReadGrammar
+pub mod ValidGrammar
