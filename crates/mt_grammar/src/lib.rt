@@ -6,6 +6,7 @@
 ghost use Rattle.std.specs.Prelude.{IfOk, IfErr};
 ghost use Rattle.mt_text_spec.specs.Registries.{ValidRegistry};
 ghost use Rattle.mt_grammar_spec.specs.ReadGrammar.{ReadsGrammar};
+ghost use Rattle.mt_grammar_spec.specs.ValidGrammar.{ValidGrammar};
 ghost use Rattle.mt_grammar.specs.Errors.{IsRefusal};
 
 mod error;
@@ -22,6 +23,7 @@ pub use error::{GrammarError, LineCause};
 pub use grammar::{Grammar, Relation};
 pub use kind::RelationKind;
 use mt_base::{Lines, Registry};
+use mt_grammar_laws::read_grammar_is_valid;
 use reader::Reader;
 use std::alloc::Global;
 
@@ -35,8 +37,10 @@ pub fn read_grammar(
 ) -> Result<Grammar, GrammarError>
     requires { ValidRegistry registry.now }
     ensures read { IfOk result (λ grammar. ReadsGrammar registry.now bytes.now grammar) }
+    ensures valid { IfOk result (λ grammar. ValidGrammar registry.now grammar) }
     ensures refused { IfErr result (λ error. IsRefusal registry.now bytes.now error) }
 {
+    read_grammar_is_valid();
     let mut reader = Reader::new(alloc);
     for line in Lines::new(bytes) {
         reader.read_line(alloc, registry, line)?;

@@ -1,5 +1,5 @@
 use Rattle.std.proofs.Common.{◌∙◌}
-use Rattle.std.proofs.lemmas.Result.{err_from_is_err_and}
+use Rattle.std.proofs.lemmas.Result.{IfOk-weaker, err_from_is_err_and}
 use Rattle.mt_grammar.proofs.Taken.{first_sound, file_refused, ended}
 use Rattle.mt_grammar.proofs.SoFar.{nothing_read, line_read}
 use Rattle.mt_grammar.proofs.read_grammar.Goals as goal
@@ -17,3 +17,8 @@ returns-in_err-read_line-clause-refused c =
 
 pub returns-clause-read : goal.returns-clause-read
 returns-clause-read c = ended c.args.registry.now c.args.bytes.now _ _ c.finish.result c.loop-line.invariant c.in-None.ensures.steps.0 c.finish.ensures.all c.finish.ensures.some
+
+pub returns-clause-valid : goal.returns-clause-valid
+returns-clause-valid c =
+    let read = ended c.args.registry.now c.args.bytes.now _ _ c.finish.result c.loop-line.invariant c.in-None.ensures.steps.0 c.finish.ensures.all c.finish.ensures.some in
+    IfOk-weaker c.finish.result _ _ (λ grammar is. c.read_grammar_is_valid.ensures c.args.registry.now c.args.bytes.now grammar c.requires is) read
