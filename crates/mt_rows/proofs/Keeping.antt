@@ -44,32 +44,36 @@ skipped marks (y ∷ ys) i d inside marked e =
     let now = y ∷ ys in
     sym (ap₂ kept (drop_more marks i d marked) (drop_more now i y inside) ∙ kept_skip (get_or marks i d) (drop (i + 1) marks) (get_or now i y) (drop (i + 1) now) e)
 
-pub keeping_skip : {X : Type 0} (marks : List Bool) (old now : List X) (count i : ℕ) (d : Bool) → Keeping marks old now count i → i < length now → length old ≤ length marks → get_or marks i d ≡ false →
-    Keeping marks old now count (i + 1)
-keeping_skip marks old now count i d k inside enough e = record {
-  behind = omega (arith, k.behind);
-  within = omega (arith, inside);
-  long = k.long;
-  left = ap (λ rest. take count now ++ rest) (skipped marks now i d inside (omega (arith, inside, enough, k.long)) e) ∙ k.left;
-}
+-- an item was put behind those that are kept
+put : {X : Type 0} (now : List X) (count i : ℕ) (x : X) → count ≤ i → i < length now → take (count + 1) (set now count x) ≡ take count now ++ x ∷ []
+put now count i x behind inside =
+    let room : count < length now = omega (arith, behind, inside) in
+    take_more (set now count x) count x (omega (arith, room, length-set now count x)) ∙ ap₂ (λ a y. a ++ y ∷ []) (take-set now count x) (get_or-set_same now count x x room)
+
+pub keeping_skip : {X : Type 0} (marks : List Bool) (old now : List X) (count i : ℕ) (x : X) (d : Bool) → Keeping marks old now count i → i < length now → length old ≤ length marks → get_or marks i d ≡ false →
+    Keeping marks old (set now count x) count (i + 1)
+keeping_skip marks old now count i x d k inside enough e =
+    let rest : drop (i + 1) (set now count x) ≡ drop (i + 1) now = drop-set-lt (i + 1) now count x (omega (arith, k.behind)) in
+    record {
+      behind = omega (arith, k.behind);
+      within = omega (arith, inside, length-set now count x);
+      long = length-set now count x ∙ k.long;
+      left = ap₂ (λ a b. a ++ kept (drop (i + 1) marks) b) (take-set now count x) rest ∙ ap (λ b. take count now ++ b) (skipped marks now i d inside (omega (arith, inside, enough, k.long)) e) ∙ k.left;
+    }
 
 pub keeping_take : {X : Type 0} (marks : List Bool) (old now : List X) (count i : ℕ) (x : X) (d : Bool) → Keeping marks old now count i → i < length now → length old ≤ length marks → x ≡ get_or now i x → get_or marks i d ≡ true →
     Keeping marks old (set now count x) (count + 1) (i + 1)
 keeping_take marks old now count i x d k inside enough is e =
     let marked : i < length marks = omega (arith, inside, enough, k.long) in
-    let room : count < length now = omega (arith, k.behind, inside) in
-    let same : length (set now count x) ≡ length now = length-set now count x in
-    let front : take (count + 1) (set now count x) ≡ take count now ++ x ∷ [] =
-    take_more (set now count x) count x (omega (arith, room, same)) ∙ ap₂ (λ a y. a ++ y ∷ []) (take-set now count x) (get_or-set_same now count x x room) in
     let rest : drop (i + 1) (set now count x) ≡ drop (i + 1) now = drop-set-lt (i + 1) now count x (omega (arith, k.behind)) in
     let more = kept (drop (i + 1) marks) (drop (i + 1) now) in
     let turned : kept (drop i marks) (drop i now) ≡ x ∷ more =
     opened marks now i x d inside marked is ∙ kept_take (get_or marks i d) (drop (i + 1) marks) x (drop (i + 1) now) e in
     record {
       behind = omega (arith, k.behind);
-      within = omega (arith, inside, same);
-      long = same ∙ k.long;
-      left = ap₂ (λ a b. a ++ kept (drop (i + 1) marks) b) front rest ∙ append_assoc (take count now) (x ∷ []) more ∙ ap (λ b. take count now ++ b) (sym turned) ∙ k.left;
+      within = omega (arith, inside, length-set now count x);
+      long = length-set now count x ∙ k.long;
+      left = ap₂ (λ a b. a ++ kept (drop (i + 1) marks) b) (put now count i x k.behind inside) rest ∙ append_assoc (take count now) (x ∷ []) more ∙ ap (λ b. take count now ++ b) (sym turned) ∙ k.left;
     }
 
 pub keeping_all : {X : Type 0} (marks : List Bool) (old now : List X) (count i : ℕ) → Keeping marks old now count i → length now ≤ i → take count now ≡ kept marks old

@@ -85,11 +85,11 @@ impl Rows {
         ensures ok { OnOk result (self.new ≡ self.old ++ row ∷ []) }
         ensures err { OnErr result (self.new ≡ self.old) }
     {
+        if !is_labelled(&row) {
+            return self.push_unlabelled(row.span());
+        }
         let at = self.spans.len();
         self.spans.push(row.span())?;
-        if !is_labelled(&row) {
-            return Ok(());
-        }
         match put_labels(&mut self.labels, at, *row.labels()) {
             Ok(()) => Ok(()),
             Err(NoMemory) => {
@@ -97,6 +97,15 @@ impl Rows {
                 Err(NoMemory)
             }
         }
+    }
+
+    /// Adds the row of a span with no label set at the end. Without memory nothing changes.
+    pub fn push_unlabelled(&mut self, span: Span) -> Result<(), NoMemory>
+        ensures ok { OnOk result (self.new ≡ self.old ++ record { span = span; labels = no_labels } ∷ []) }
+        ensures err { OnErr result (self.new ≡ self.old) }
+    {
+        self.spans.push(span)?;
+        Ok(())
     }
 
     /// Keeps the first `n` rows, or all where there are fewer.

@@ -11,8 +11,8 @@ loop-i-preserved g c =
     let k = c.loop-i.invariant in
     let inside : c.loop-i.i < length now = omega (arith, c.loop-i-test.true, c.len-i-end.ensures, k.long, c.args.items.now.ok.0) in
     elim c.if-marks-i.branch [
-      | then-marks-i w ↦ rw (w.items-is, w.count-is) (keeping_take marks old now c.loop-i.count c.loop-i.i w.index.result.now false k inside c.requires w.index.ensures w.if-marks-i.true)
-      | else-marks-i w ↦ rw (w.items-is, w.count-is) (keeping_skip marks old now c.loop-i.count c.loop-i.i false k inside c.requires w.if-marks-i.false)
+      | then-marks-i w ↦ rw (w.count-is) (keeping_take marks old now c.loop-i.count c.loop-i.i c.index.result.now false k inside c.requires c.index.ensures w.if-marks-i.true)
+      | else-marks-i w ↦ rw (w.count-is) (keeping_skip marks old now c.loop-i.count c.loop-i.i c.index.result.now false k inside c.requires w.if-marks-i.false)
     ]
 
 pub returns : goal.returns
