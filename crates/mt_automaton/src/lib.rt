@@ -32,6 +32,7 @@ pub use part::Part;
 pub use pool::Pool;
 pub use reach::{ends, starts};
 pub use rows::Work;
+pub use rows_of_text::row_begins;
 pub use view::{Mark, View};
 pub use window::Window;
 

@@ -45,13 +45,21 @@ fn ordered(way: Way, begin: u32, end: u32) -> (u32, u32)
     }
 }
 
-/// Adds to `out` where the instance of a tag leads to that begins at a place and has a token.
-fn follow_one<V: View>(view: &V, tag: u32, way: Way, at: u32, set: &Places, out: &mut Places)
+/// Adds to `out` where the instance of a tag leads to that begins at a place and has a token. `near` is for the view.
+fn follow_one<V: View>(
+    view: &V,
+    tag: u32,
+    way: Way,
+    at: u32,
+    near: &mut usize,
+    set: &Places,
+    out: &mut Places,
+)
     requires set { length set.now ≡ width (V.seen view.now) }
     requires out { length out.old ≡ width (V.seen view.now) }
     ensures { Adds way (From (Longer (V.seen view.now) tag) at) set.now out.old out.new }
 {
-    if let Some(end) = view.whole_end(tag, at) {
+    if let Some(end) = view.whole_end(tag, at, near) {
         let (here, there) = ordered(way, at, end);
         if set.contains(here) {
             out.insert(there);
@@ -76,9 +84,10 @@ fn follow<V: View>(
     requires out { length out.old ≡ width (V.seen view.now) }
     ensures { Adds way (Longer (V.seen view.now) tag) set.now out.old out.new }
 {
+    let mut near = 0;
     let mut from = 0;
     while let Some(at) = begins.first_from(from) {
-        follow_one(view, tag, way, at, set, out);
+        follow_one(view, tag, way, at, &mut near, set, out);
         from = at + 1;
     }
 }

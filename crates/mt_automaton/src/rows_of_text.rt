@@ -131,8 +131,8 @@ fn rows_of_begins<V: View>(
     Ok(())
 }
 
-/// The places at which rows of a part may begin.
-fn begins_of<V: View>(pool: &mut Pool, view: &V, part: &Labelled) -> Result<Places, NoMemory>
+/// The places at which rows of a part may begin: where there is none, there is no row.
+pub fn row_begins<V: View>(pool: &mut Pool, view: &V, part: &Labelled) -> Result<Places, NoMemory>
     ensures all { IfOk result (λ begins. (text : ℕ) (row : SpecRow) → IsRowOfText (V.seen view.now).text (labelled_meant (V.seen view.now) part.now) text row → In begins row.span.begin) }
     ensures inside { IfOk result (λ begins. (place : ℕ) → In begins place → place < (V.seen view.now).text.tokens) }
 {
@@ -158,7 +158,7 @@ fn part_rows<V: View>(
     ensures kept { OnErr result (Begins out.old out.new) }
 {
     let _few = view.tokens();
-    let begins = begins_of(&mut work.pool, view, part)?;
+    let begins = row_begins(&mut work.pool, view, part)?;
     let result = rows_of_begins(work, view, part, &begins, text, room, out);
     work.pool.give(begins);
     result

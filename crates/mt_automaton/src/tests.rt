@@ -74,7 +74,7 @@ impl View for Spots {
         }
     }
 
-    fn whole_end(&self, _: u32, at: u32) -> Option<u32> {
+    fn whole_end(&self, _: u32, at: u32, _: &mut usize) -> Option<u32> {
         if at == self.begin && self.begin < self.end {
             Some(self.end)
         } else {

@@ -38,8 +38,9 @@ pub trait View {
     fn word(&self, mark: Mark, at: usize) -> u64
         ensures { WordIs (Stands (seen self.now) mark) at result };
 
-    /// Where the instance of a tag ends that begins at a place, has a token, and ends in the text; no two of these begin at one place.
-    fn whole_end(&self, tag: u32, at: u32) -> Option<u32>
+    /// Where the instance of a tag ends that begins at a place, has a token, and ends in the text; no two of these begin at one place. `near` is where one was found
+    /// last, so that the next one is found at once, or any number: the answer is the same.
+    fn whole_end(&self, tag: u32, at: u32, near: &mut usize) -> Option<u32>
         ensures some { IfSome result (λ end. Longer (seen self.now) tag at end) }
         ensures only { (end : ℕ) → Longer (seen self.now) tag at end → result ≡ Some end };
 

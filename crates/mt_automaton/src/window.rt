@@ -88,12 +88,12 @@ impl<'a, V: View> View for Window<'a, V> {
         self.view.word(mark, self.first + at) & Below { end }.word(at)
     }
 
-    fn whole_end(&self, tag: u32, at: u32) -> Option<u32> {
+    fn whole_end(&self, tag: u32, at: u32, near: &mut usize) -> Option<u32> {
         if at > self.tokens {
             return None;
         }
         let base = self.base();
-        match self.view.whole_end(tag, base + at) {
+        match self.view.whole_end(tag, base + at, near) {
             Some(end) => {
                 if end <= base + self.tokens {
                     Some(end - base)

@@ -1,6 +1,6 @@
 use Rattle.std.proofs.Common.{◌∙◌}
 use Rattle.mt_automaton.proofs.InText.{are_all_begins}
-use Rattle.mt_automaton.proofs.rows_of_text.begins_of.Goals as goal
+use Rattle.mt_automaton.proofs.rows_of_text.row_begins.Goals as goal
 
 pub returns-clause-all : goal.returns-clause-all
 returns-clause-all g c =
