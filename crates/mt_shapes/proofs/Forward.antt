@@ -1,5 +1,5 @@
 -- No match leads back, so where two follow each other between two places, they meet between them.
-use Rattle.std.proofs.Common.{◌≡◌, ℕ, zero, suc, ◌<◌, ◌≤◌, List, inl, inr, arith}
+use Rattle.std.proofs.Common.{ℕ, zero, suc, ◌≤◌, List, inl, inr, arith}
 use Rattle.mt_text_spec.specs.Queries.{Expr, TokenTest, Begin, End, Whole, Seq, Choice, Repeat}
 use Rattle.mt_match_spec.specs.Matches as m
 use Rattle.mt_automaton.specs.Parts.{HasAllInside, GoesOn, outside}

@@ -1,5 +1,5 @@
 -- Labels of shapes, moved to a begin and united.
-use Rattle.std.proofs.Common.{◌≡◌, ◌≢◌, ℕ, zero, suc, ◌+◌, ◌-◌, ◌<◌, ◌≤◌, List, [], ◌∷◌, length, length-set, map, set, replicate, get_or, refl, sym, ◌∙◌, ap, inl, inr, arith, Bool, true, false, eqb-true, eq-eqb}
+use Rattle.std.proofs.Common.{◌≡◌, ◌≢◌, ℕ, zero, suc, ◌+◌, ◌-◌, ◌<◌, ◌≤◌, List, [], ◌∷◌, length, length-set, set, replicate, get_or, refl, sym, ◌∙◌, ap, inl, inr, arith, Bool, true, false, eqb-true, eq-eqb}
 use Rattle.std.specs.Prelude.{◌==◌, if◌then◌else◌}
 use Rattle.std.specs.declared.cmp.Ordering.TheVariants.{Less, Equal, Greater}
 use Rattle.std.specs.Ordering.{nat_cmp, ordering_then}
@@ -8,7 +8,7 @@ use Rattle.std.specs.Cmp.Lexicographic.{slice_cmp}
 use Rattle.std.specs.List.{AllByRecursion}
 use Rattle.std.proofs.lemmas.Bool.{cases_lt, cases_eq}
 use Rattle.std.proofs.lemmas.List.{ext_get_or, get_or-set_same, get_or-set_other, length-map}
-use Rattle.mt_text_spec.specs.Texts.{Row, unset}
+use Rattle.mt_text_spec.specs.Texts.{unset}
 use Rattle.mt_text_spec.specs.Orders.{row_cmp}
 use Rattle.mt_match_spec.specs.Labels.{no_labels, labelled, united, place_of_either}
 use Rattle.mt_automaton.specs.Windows.{moved, FitsBehind}

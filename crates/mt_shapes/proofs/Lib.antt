@@ -7,3 +7,4 @@ pub mod Meant
 pub mod Turning
 pub mod Whole
 pub mod Listed
+pub mod OneByOne

@@ -1,5 +1,5 @@
 -- The rows of a table, one entry and one begin after another.
-use Rattle.std.proofs.Common.{◌≡◌, ℕ, zero, suc, ◌+◌, ◌<◌, ◌≤◌, ◌⊎◌, List, [], ◌∷◌, ◌++◌, length, refl, sym, ◌∙◌, ap, subst, inl, inr, arith, Result, Ok, Err, OnErr}
+use Rattle.std.proofs.Common.{◌≡◌, ℕ, zero, suc, ◌+◌, ◌<◌, ◌≤◌, List, [], ◌∷◌, ◌++◌, length, refl, sym, ◌∙◌, ap, subst, inl, inr, arith, Result, Ok, Err, OnErr}
 use Rattle.std.specs.declared.cmp.Ordering.{Ordering}
 use Rattle.std.specs.declared.cmp.Ordering.TheVariants.{Less, Equal}
 use Rattle.std.specs.Ordering.{nat_cmp, ordering_then}
@@ -19,10 +19,9 @@ use Rattle.mt_places.specs.Places.{In}
 use Rattle.mt_rows.specs.Appends.{Appends, Begins}
 use Rattle.mt_automaton.specs.Windows.{moved, FitsBehind}
 use Rattle.mt_automaton.specs.RowsFrom.{IsRowOfText, HasLonger}
-use Rattle.mt_shapes.specs.declared.shape.Shape.{Shape}
 use Rattle.mt_shapes.specs.declared.table.Entry.{Entry}
-use Rattle.mt_shapes.specs.Shapes.{IsOf, Suits, row_of}
-use Rattle.mt_shapes.specs.Tables.{entry, Fine, IsMatchOf, IsMatchBelow, Adds, Inside, IsRowBelow, IsRowOf, BeginsBelow}
+use Rattle.mt_shapes.specs.Shapes.{row_of}
+use Rattle.mt_shapes.specs.Tables.{entry, Fine, Adds, Inside, IsRowBelow, IsRowOf, BeginsBelow}
 use Rattle.mt_shapes.proofs.Labels.{all_fit, same_row_order}
 use Rattle.mt_shapes.proofs.Meant.{only_of}
 
@@ -36,7 +35,7 @@ all_append P [] [] all h = tt
 all_append P [] (y ∷ ys) all h = (h y (0, omega arith, refl), all_append P [] ys tt (λ z c. h z (there y ys z c)))
 all_append P (x ∷ xs) ys all h = (all.0, all_append P xs ys all.1 h)
 
-sorted_append : {X : Type 0} (order : X → X → Ordering) (xs ys : List X) → IsStrictlySortedBy order xs → IsStrictlySortedBy order ys → ((x y : X) → Contains xs x → Contains ys y → order x y ≡ Less) → IsStrictlySortedBy order (xs ++ ys)
+pub sorted_append : {X : Type 0} (order : X → X → Ordering) (xs ys : List X) → IsStrictlySortedBy order xs → IsStrictlySortedBy order ys → ((x y : X) → Contains xs x → Contains ys y → order x y ≡ Less) → IsStrictlySortedBy order (xs ++ ys)
 unfolding IsStrictlySortedBy
 sorted_append order [] ys s r h = r
 sorted_append order (x ∷ xs) ys s r h =
@@ -46,11 +45,11 @@ nothing_sorted : {X : Type 0} (order : X → X → Ordering) → IsStrictlySorte
 unfolding IsStrictlySortedBy
 nothing_sorted order = tt
 
-one_sorted : {X : Type 0} (order : X → X → Ordering) (x : X) → IsStrictlySortedBy order (x ∷ [])
+pub one_sorted : {X : Type 0} (order : X → X → Ordering) (x : X) → IsStrictlySortedBy order (x ∷ [])
 unfolding IsStrictlySortedBy
 one_sorted order x = (tt, tt)
 
-in_one : {X : Type 0} (y x : X) → Contains (y ∷ []) x → x ≡ y
+pub in_one : {X : Type 0} (y x : X) → Contains (y ∷ []) x → x ≡ y
 in_one y x (zero, l, e) = sym e
 in_one y x (suc k, l, e) = absurd (omega (arith, l))
 
@@ -190,7 +189,7 @@ row_fits tokens entries n begin item few fine low is in_it =
 
 -- ## Rows of one text are ordered by their begins
 
-begins_before : (r s : Row) → r.span.text ≡ s.span.text → r.span.begin < s.span.begin → row_cmp r s ≡ Less
+pub begins_before : (r s : Row) → r.span.text ≡ s.span.text → r.span.begin < s.span.begin → row_cmp r s ≡ Less
 begins_before r s e h =
     let rest = slice_cmp nat_cmp r.labels s.labels in
     let ends = nat_cmp r.span.end s.span.end in
@@ -255,10 +254,6 @@ appended_count P room old new a = let many : length new ≡ length old + length 
 pub appended_within : (P : Row → Type 0) (room : ℕ) (old new : List Row) → Appends P room old new → length new ≤ length old + room
 appended_within P room old new a = let many : length new ≡ length old + length a.rows = ap length a.appended ∙ length-append old a.rows in let fits = a.within in omega (arith, many, fits)
 
--- each row begins at a place of the set
-pub row_begins : (entries : List Entry) (begins : List ℕ) (text : ℕ) → ((i b : ℕ) → i < length entries → In (entry entries i).begins b → In begins b) → (row : Row) → IsRowOf entries text row → In begins row.span.begin
-row_begins entries begins text all row r = all r.is.at row.span.begin r.is.below r.is.is.is_in
-
 pub all_begins : (entries : List Entry) (text room from : ℕ) (old new : List Row) → ((row : Row) → IsRowOf entries text row → from ≤ row.span.begin → ⊥) → Appends (BeginsBelow entries text from) room old new
     → Appends (IsRowOf entries text) room old new
 all_begins entries text room from old new none a = record {
@@ -301,6 +296,15 @@ on_err_known (Ok x) K k = tt
 on_err_known (Err e) K k = k
 
 -- ## The rows of an expression
+
+-- there is no row to append
+pub nothing_there : (P : Row → Type 0) (room : ℕ) (old new : List Row) → ((row : Row) → P row → ⊥) → new ≡ old → Appends P room old new
+nothing_there P room old new none same = record {
+  rows = [];
+  are = record { ascending = nothing_sorted row_cmp; only = λ x h. absurd (in_none x h); each = λ x p. absurd (none x p) };
+  within = omega arith;
+  appended = same ∙ sym (append-nil old);
+}
 
 pub row_there : (s : m.Sight) (expr : q.Expr) (text tokens : ℕ) (entries : List Entry) → tokens ≡ s.tokens → Adds tokens (Inside tokens (m.Matches s expr)) [] entries → (row : Row) → IsRowOf entries text row → IsRowOfText s expr text row
 row_there s expr text tokens entries is a row r =

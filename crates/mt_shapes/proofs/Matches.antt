@@ -1,6 +1,6 @@
 -- What tables tell of matches, and what is added to them.
-use Rattle.std.proofs.Common.{◌≡◌, ℕ, zero, suc, ◌+◌, ◌-◌, ◌/◌, ◌<◌, ◌≤◌, ◌⊎◌, min, List, [], length, refl, sym, ◌∙◌, ap, subst, inl, inr, arith}
-use Rattle.std.proofs.lemmas.Bool.{cases_eq, cases_lt}
+use Rattle.std.proofs.Common.{◌≡◌, ℕ, ◌+◌, ◌-◌, ◌/◌, ◌<◌, ◌≤◌, ◌⊎◌, min, List, length, refl, sym, ◌∙◌, ap, subst, inl, inr, arith}
+use Rattle.std.proofs.lemmas.Bool.{cases_eq}
 use Rattle.mt_text_spec.specs.Texts.{unset}
 use Rattle.mt_match_spec.specs.Matches as m
 use Rattle.mt_match_spec.specs.Labels.{no_labels, united}
@@ -9,11 +9,11 @@ use Rattle.mt_automaton.specs.Windows.{moved}
 use Rattle.mt_automaton.specs.Parts.{Seen, Stands}
 use Rattle.mt_automaton.specs.declared.view.Mark.{Mark}
 use Rattle.mt_shapes.proofs.Bits.{in_room}
-use Rattle.mt_shapes.proofs.Labels.{joined_labels, all_within, united_length, moved_length, no_labels_within}
+use Rattle.mt_shapes.proofs.Labels.{joined_labels, all_within, united_length, no_labels_within}
 use Rattle.mt_shapes.specs.declared.shape.Shape.{Shape}
 use Rattle.mt_shapes.specs.declared.table.Entry.{Entry}
 use Rattle.mt_shapes.specs.Shapes.{IsOf, Suits}
-use Rattle.mt_shapes.specs.Tables.{none, entry, Fine, IsListed, AddsListed, IsMatchBelow, IsMatchOf, Adds, IsMarked, IsStretch, IsStretchBelow}
+use Rattle.mt_shapes.specs.Tables.{entry, Fine, AddsListed, IsMatchBelow, IsMatchOf, Adds, IsMarked, IsStretch, IsStretchBelow}
 
 -- ## What was added
 

@@ -1,11 +1,10 @@
 -- What is added for a part of a query is what the part matches.
-use Rattle.std.proofs.Common.{◌≡◌, ℕ, zero, suc, ◌+◌, ◌<◌, ◌≤◌, ◌⊎◌, List, [], length, refl, sym, ◌∙◌, ap, subst, inl, inr, arith}
+use Rattle.std.proofs.Common.{◌≡◌, ℕ, zero, suc, ◌+◌, ◌<◌, ◌≤◌, ◌⊎◌, List, [], refl, sym, ◌∙◌, ap, subst, inl, inr, arith}
 use Rattle.mt_text_spec.specs.Queries.{Any}
-use Rattle.mt_text_spec.specs.Queries as q
 use Rattle.mt_match_spec.specs.Matches as m
 use Rattle.mt_match_spec.specs.Labels.{no_labels, labelled, united}
 use Rattle.mt_automaton.specs.declared.view.Mark.TheVariants.{Holds, Begins, Ends}
-use Rattle.mt_automaton.specs.Parts.{Seen, HasAllInside, Stands}
+use Rattle.mt_automaton.specs.Parts.{Seen, Stands}
 use Rattle.mt_shapes.specs.declared.shape.Shape.{Shape}
 use Rattle.mt_shapes.specs.declared.table.Entry.{Entry}
 use Rattle.mt_shapes.specs.Tables.{IsMatchOf, Adds, Inside, IsMarked, IsStretch, IsStretchBelow, IsTurned}

@@ -1,5 +1,5 @@
 -- Tables of shapes, one entry more and one after another.
-use Rattle.std.proofs.Common.{◌≡◌, ◌≢◌, ℕ, ◌+◌, ◌-◌, ◌<◌, ◌≤◌, ◌⊎◌, List, [], length, set, refl, sym, ◌∙◌, ap, subst, inl, inr, true, arith, length-set, get_or-set_same, get_or-set_other}
+use Rattle.std.proofs.Common.{◌≡◌, ◌≢◌, ℕ, ◌+◌, ◌-◌, ◌<◌, ◌≤◌, ◌⊎◌, List, [], length, set, refl, sym, ◌∙◌, ap, subst, inl, inr, arith, length-set, get_or-set_same, get_or-set_other}
 use Rattle.std.proofs.lemmas.Bool.{cases_eq, cases_lt}
 use Rattle.std.proofs.lemmas.List.Edits.{length-insert, get_or-insert_at, get_or-insert_below, get_or-insert_above}
 use Rattle.std.specs.List.{insert}
@@ -14,7 +14,7 @@ use Rattle.mt_shapes.proofs.Bits.{in_room}
 use Rattle.mt_shapes.specs.declared.shape.Shape.{Shape}
 use Rattle.mt_shapes.specs.declared.table.Entry.{Entry}
 use Rattle.mt_shapes.specs.Shapes.{shape_cmp, Suits}
-use Rattle.mt_shapes.specs.Tables.{none, entry, Before, IsAscending, StandsBetween, Fine, IsListed, AddsListed}
+use Rattle.mt_shapes.specs.Tables.{none, entry, Before, IsAscending, StandsBetween, Fine, AddsListed}
 
 pub no_entry : (tokens : ℕ) → Fine tokens []
 no_entry tokens = record {

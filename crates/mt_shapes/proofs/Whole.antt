@@ -1,10 +1,10 @@
 -- Whole instances of a tag, one after another.
-use Rattle.std.proofs.Common.{◌≡◌, ℕ, ◌+◌, ◌-◌, ◌/◌, ◌<◌, ◌≤◌, ◌⊎◌, Option, None, Some, List, length, refl, sym, ◌∙◌, ap, subst, inl, inr, arith}
+use Rattle.std.proofs.Common.{◌≡◌, ℕ, ◌+◌, ◌-◌, ◌/◌, ◌<◌, ◌≤◌, ◌⊎◌, Option, None, Some, List, length, refl, sym, ◌∙◌, subst, inl, inr, arith}
 use Rattle.std.proofs.lemmas.Bool.{cases_eq, cases_lt}
 use Rattle.mt_match_spec.specs.Matches as m
 use Rattle.mt_match_spec.specs.Labels.{no_labels}
 use Rattle.mt_places.specs.Places.{In, HasJust}
-use Rattle.mt_automaton.specs.declared.view.Mark.TheVariants.{Begins, Empty}
+use Rattle.mt_automaton.specs.declared.view.Mark.TheVariants.{Empty}
 use Rattle.mt_automaton.specs.Parts.{Seen, Stands, Lies, Longer, HasAllInside}
 use Rattle.mt_shapes.specs.declared.shape.Shape.{Shape}
 use Rattle.mt_shapes.specs.declared.table.Entry.{Entry}

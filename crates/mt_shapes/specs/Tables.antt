@@ -132,6 +132,11 @@ pub record IsRowOf (entries : List Entry) (text : ℕ) (row : Row) : Type 0 wher
   pub some : row.span.begin < row.span.end
   pub is : IsMatchOf entries row.span.begin row.span.end row.labels
 
+-- a row of P that begins at a place
+pub record BeginsAt (P : Row → Type 0) (at : ℕ) (row : Row) : Type 0 where
+  pub is : P row
+  pub here : row.span.begin ≡ at
+
 -- it begins below n
 pub record BeginsBelow (entries : List Entry) (text n : ℕ) (row : Row) : Type 0 where
   pub is : IsRowOf entries text row

@@ -1,6 +1,8 @@
 //! The rows of an automaton in a text, by shapes where there are few.
 
-ghost use Rattle.std.specs.Prelude.{◌≡◌, ◌+◌, ◌<◌, ◌≤◌, true, false, Ok, OnOk, OnErr, IsErrOf};
+ghost use Rattle.std.specs.Prelude.{◌≡◌, ℕ, ◌+◌, ◌<◌, ◌≤◌, true, false, Ok, OnOk, OnErr, IsErrOf};
+ghost use Rattle.mt_text_spec.specs.Texts.{Row as SpecRow};
+ghost use Rattle.mt_places.specs.Places.{In};
 ghost use Rattle.mt_text_spec.specs.Queries.{Expr as QueryExpr};
 ghost use Rattle.mt_rows.specs.Appends.{Appends, Begins};
 ghost use Rattle.mt_rows.specs.declared.error.EvalError.TheVariants.{TooManyRows as TooMany};
@@ -8,14 +10,82 @@ ghost use Rattle.mt_automaton.specs.Compiled.{IsOf, IsSeenFor};
 ghost use Rattle.mt_automaton.specs.LabelledParts.{labelled_meant};
 ghost use Rattle.mt_automaton.specs.RowsFrom.{IsRowOfText, HasLonger};
 
+use crate::instances::rows_of_instances;
+use crate::lengths::most_shapes;
 use crate::parts::add_labelled;
 use crate::refused::Refused;
 use crate::rows::rows_of_table;
-use crate::work::{Maker, Work};
-use mt_automaton::{Automaton, Labelled, View, automaton_matches};
+use crate::work::{MAX_ENTRIES, Maker, Work};
+use mt_automaton::{Automaton, Labelled, Part, View, automaton_matches, row_begins};
+use mt_places::Places;
 use mt_rows::{EvalError, Rows};
 
-/// Appends the rows of a part in a text, and tells whether it did: not where there are too many shapes.
+/// Appends the rows of a part in a text by a table of its shapes, and tells whether it did: not where there are too many. All rows begin at places of a set.
+fn rows_by_table<V: View>(
+    maker: &mut Maker,
+    view: &V,
+    part: &Labelled,
+    begins: &Places,
+    text: u32,
+    room: u32,
+    out: &mut Rows,
+) -> Result<bool, EvalError>
+    requires all { (row : SpecRow) → IsRowOfText (V.seen view.now).text (labelled_meant (V.seen view.now) part.now) text row → In begins.now row.span.begin }
+    requires inside { (place : ℕ) → In begins.now place → place < (V.seen view.now).text.tokens }
+    ensures done { result ≡ Ok true → Appends (IsRowOfText (V.seen view.now).text (labelled_meant (V.seen view.now) part.now) text) room out.old out.new }
+    ensures refused { result ≡ Ok false → out.new ≡ out.old }
+    ensures more { IsErrOf result TooMany → HasLonger (IsRowOfText (V.seen view.now).text (labelled_meant (V.seen view.now) part.now) text) room }
+    ensures kept { OnErr result (Begins out.old out.new) }
+{
+    let last = view.tokens();
+    let mut entries = maker.table();
+    maker.start();
+    match add_labelled(maker, view, last, part, &mut entries) {
+        Ok(()) => {
+            let result = rows_of_table(&entries, last, begins, text, room, out);
+            maker.give(entries);
+            match result {
+                Ok(()) => Ok(true),
+                Err(error) => Err(error),
+            }
+        }
+        Err(Refused::TooManyShapes) => {
+            maker.give(entries);
+            Ok(false)
+        }
+        Err(Refused::NoMemory) => Err(EvalError::NoMemory),
+    }
+}
+
+/// Appends the rows of a part in a text by its shapes, and tells whether it did. It makes nothing where no row begins, nor where the part may have too many shapes.
+fn rows_of_shapes<V: View>(
+    maker: &mut Maker,
+    view: &V,
+    part: &Labelled,
+    text: u32,
+    room: u32,
+    out: &mut Rows,
+) -> Result<bool, EvalError>
+    ensures done { result ≡ Ok true → Appends (IsRowOfText (V.seen view.now).text (labelled_meant (V.seen view.now) part.now) text) room out.old out.new }
+    ensures refused { result ≡ Ok false → out.new ≡ out.old }
+    ensures more { IsErrOf result TooMany → HasLonger (IsRowOfText (V.seen view.now).text (labelled_meant (V.seen view.now) part.now) text) room }
+    ensures kept { OnErr result (Begins out.old out.new) }
+{
+    let begins = row_begins(&mut maker.pool, view, part)?;
+    if begins.is_empty() {
+        maker.pool.give(begins);
+        return Ok(true);
+    }
+    if most_shapes(part, view.tokens()) as usize > MAX_ENTRIES {
+        maker.pool.give(begins);
+        return Ok(false);
+    }
+    let result = rows_by_table(maker, view, part, &begins, text, room, out);
+    maker.pool.give(begins);
+    result
+}
+
+/// Appends the rows of a part in a text, and tells whether it did: those of the instances of a tag one by one, others by their shapes.
 fn part_rows<V: View>(
     maker: &mut Maker,
     view: &V,
@@ -29,23 +99,14 @@ fn part_rows<V: View>(
     ensures more { IsErrOf result TooMany → HasLonger (IsRowOfText (V.seen view.now).text (labelled_meant (V.seen view.now) part.now) text) room }
     ensures kept { OnErr result (Begins out.old out.new) }
 {
-    let last = view.tokens();
-    let mut entries = maker.table();
-    maker.start();
-    match add_labelled(maker, view, last, part, &mut entries) {
-        Ok(()) => {
-            let result = rows_of_table(&mut maker.pool, &entries, last, text, room, out);
-            maker.give(entries);
-            match result {
+    match part {
+        Labelled::Plain(Part::Whole(tag)) => {
+            match rows_of_instances(&mut maker.pool, view, *tag, text, room, out) {
                 Ok(()) => Ok(true),
                 Err(error) => Err(error),
             }
         }
-        Err(Refused::TooManyShapes) => {
-            maker.give(entries);
-            Ok(false)
-        }
-        Err(Refused::NoMemory) => Err(EvalError::NoMemory),
+        _ => rows_of_shapes(maker, view, part, text, room, out),
     }
 }
 

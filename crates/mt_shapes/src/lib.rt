@@ -4,10 +4,13 @@
 //! length. For each shape of an expression there is the set of the places where a match of this shape begins, made for 64 places at once (`Entry`); of one part after
 //! another it is where the first begins whose end is a begin of the second. The rows are then read off these sets, begin by begin.
 //!
-//! Where an expression has many shapes, no rows are found by them (`rows_by_shapes`), and `rows_of_text` finds them begin by begin.
+//! Where an expression has many shapes, no rows are found by them (`rows_by_shapes`), and `rows_of_text` finds them begin by begin. Where rows may begin is looked at
+//! first, and how many shapes there may be: so nothing is made for an expression of which a part that is rare has no place, nor for one with too many shapes.
 #![tactic(auto)]
 
 mod finding;
+mod instances;
+mod lengths;
 mod parts;
 mod refused;
 mod rows;

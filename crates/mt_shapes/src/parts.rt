@@ -21,9 +21,9 @@ use mt_places::{Marks, Places};
 
 /// Where a mark stands in a text.
 #[derive(Clone, Copy, Drop)]
-struct Standing<'a, V: View> {
-    view: &'a V,
-    mark: Mark,
+pub(crate) struct Standing<'a, V: View> {
+    pub view: &'a V,
+    pub mark: Mark,
 }
 
 impl<'a, V: View> Marks for Standing<'a, V> {
@@ -58,13 +58,14 @@ fn add_marked<V: View>(
     add(maker, last, shape, begins, out)
 }
 
-/// Adds the instance of a tag that begins at a place and has a token.
+/// Adds the instance of a tag that begins at a place and has a token. `near` is for the view.
 fn add_longer_at<V: View>(
     maker: &mut Maker,
     view: &V,
     last: u32,
     tag: u32,
     at: u32,
+    near: &mut usize,
     out: &mut Vec<Entry>,
 ) -> Result<(), Refused>
     requires few { last < 4294967295 }
@@ -72,7 +73,7 @@ fn add_longer_at<V: View>(
     requires fine { Fine last out.old.items }
     ensures { OnOk result (Adds last (IsLongerAt (V.seen view.now) tag at) out.old.items out.new.items) }
 {
-    match view.whole_end(tag, at) {
+    match view.whole_end(tag, at, near) {
         Some(end) => add_one(maker, last, at, end, out),
         None => Ok(()),
     }
@@ -94,9 +95,10 @@ fn add_longer<V: View>(
     requires fine { Fine last out.old.items }
     ensures { OnOk result (Adds last (IsLongerBelow (V.seen view.now) tag (last + 1)) out.old.items out.new.items) }
 {
+    let mut near = 0;
     let mut from = 0;
     while let Some(at) = begins.first_from(from) {
-        add_longer_at(maker, view, last, tag, at, out)?;
+        add_longer_at(maker, view, last, tag, at, &mut near, out)?;
         from = at + 1;
     }
     Ok(())

@@ -1,17 +1,42 @@
 //! The rows of a table of shapes.
 
-ghost use Rattle.std.specs.Prelude.{◌≡◌, ◌+◌, ◌<◌, ◌≤◌, length, IfOk, OnOk, OnErr, IsErrOf};
+ghost use Rattle.std.specs.Prelude.{◌≡◌, ◌+◌, ◌<◌, ◌≤◌, ◌++◌, [], ◌∷◌, true, false, length, OnOk, OnErr, IsErrOf};
+ghost use Rattle.std.specs.List.{AllByRecursion};
+ghost use Rattle.mt_text_spec.specs.Texts.{unset, Row as SpecRow};
 ghost use Rattle.mt_places.specs.Places.{In};
 ghost use Rattle.mt_rows.specs.Appends.{Appends, Begins};
 ghost use Rattle.mt_rows.specs.declared.error.EvalError.TheVariants.{TooManyRows as TooMany};
 ghost use Rattle.mt_automaton.specs.RowsFrom.{HasLonger};
-ghost use Rattle.mt_shapes.specs.Tables.{entry as entry_at, Fine, IsRowBelow, IsRowOf};
+ghost use Rattle.mt_automaton.specs.Windows.{FitsBehind};
+ghost use Rattle.mt_shapes.specs.Shapes.{row_of};
+ghost use Rattle.mt_shapes.specs.Tables.{Fine, IsRowBelow, IsRowOf};
 
+use crate::shape::Shape;
 use crate::table::Entry;
-use mt_automaton::Pool;
-use mt_base::NoMemory;
+use mt_base::{NoMemory, Span};
 use mt_places::Places;
 use mt_rows::{EvalError, Rows};
+
+/// Whether a match of an entry begins at a place and has a token.
+fn has_row(entry: &Entry, begin: u32) -> bool
+    ensures yes { result ≡ true → (0 < entry.now.shape.length) × In entry.now.begins begin }
+    ensures no { result ≡ false → 0 < entry.now.shape.length → ¬ In entry.now.begins begin }
+{
+    entry.shape.length > 0 && entry.begins.contains(begin)
+}
+
+/// Appends the row of a match of a shape.
+fn push_row(shape: &Shape, text: u32, begin: u32, out: &mut Rows) -> Result<(), NoMemory>
+    requires length { begin + shape.now.length < unset }
+    requires labels { AllByRecursion (FitsBehind begin) shape.now.labels }
+    ensures ok { OnOk result (out.new ≡ out.old ++ row_of shape.now text begin ∷ []) }
+    ensures err { OnErr result (out.new ≡ out.old) }
+{
+    if shape.is_unlabelled() {
+        return out.push_unlabelled(Span::new(text, begin, begin + shape.length));
+    }
+    out.push(shape.row(text, begin))
+}
 
 /// Appends the rows that begin at a place, the shortest first.
 fn rows_at(
@@ -32,33 +57,19 @@ fn rows_at(
 {
     let mut left = room;
     for entry in entries {
-        if entry.shape.length > 0 && entry.begins.contains(begin) {
+        if has_row(entry, begin) {
             if left == 0 {
                 return Err(EvalError::TooManyRows);
             }
-            out.push(entry.shape.row(text, begin))?;
+            push_row(&entry.shape, text, begin, out)?;
             left -= 1;
         }
     }
     Ok(())
 }
 
-/// The places where some match of a table begins.
-fn begins_of(pool: &mut Pool, last: u32, entries: &[Entry]) -> Result<Places, NoMemory>
-    requires few { last < 4294967295 }
-    requires fine { Fine last entries.now }
-    ensures all { IfOk result (λ begins. (i : _) (begin : _) → i < length entries.now → In (entry_at entries.now i).begins begin → In begins begin) }
-    ensures inside { IfOk result (λ begins. (begin : _) → In begins begin → begin ≤ last) }
-{
-    let mut begins = pool.none((last / 64) as usize + 1)?;
-    for entry in entries {
-        begins.add(&entry.begins);
-    }
-    Ok(begins)
-}
-
-/// Appends the rows that begin at places of a set, from the first place on.
-fn rows_of_begins(
+/// Appends all rows of a table, ascending. All of them begin at places of a set.
+pub(crate) fn rows_of_table(
     entries: &[Entry],
     last: u32,
     begins: &Places,
@@ -68,7 +79,7 @@ fn rows_of_begins(
 ) -> Result<(), EvalError>
     requires few { last < 4294967295 }
     requires fine { Fine last entries.now }
-    requires all { (i : _) (begin : _) → i < length entries.now → In (entry_at entries.now i).begins begin → In begins.now begin }
+    requires all { (row : SpecRow) → IsRowOf entries.now text row → In begins.now row.span.begin }
     requires inside { (begin : _) → In begins.now begin → begin ≤ last }
     ensures ok { OnOk result (Appends (IsRowOf entries.now text) room out.old out.new) }
     ensures more { IsErrOf result TooMany → HasLonger (IsRowOf entries.now text) room }
@@ -83,25 +94,4 @@ fn rows_of_begins(
         from = at + 1;
     }
     Ok(())
-}
-
-/// Appends all rows of a table, ascending.
-pub(crate) fn rows_of_table(
-    pool: &mut Pool,
-    entries: &[Entry],
-    last: u32,
-    text: u32,
-    room: u32,
-    out: &mut Rows,
-) -> Result<(), EvalError>
-    requires few { last < 4294967295 }
-    requires fine { Fine last entries.now }
-    ensures ok { OnOk result (Appends (IsRowOf entries.now text) room out.old out.new) }
-    ensures more { IsErrOf result TooMany → HasLonger (IsRowOf entries.now text) room }
-    ensures kept { OnErr result (Begins out.old out.new) }
-{
-    let begins = begins_of(pool, last, entries)?;
-    let result = rows_of_begins(entries, last, &begins, text, room, out);
-    pool.give(begins);
-    result
 }

@@ -1,6 +1,6 @@
 //! Shapes of matches.
 
-ghost use Rattle.std.specs.Prelude.{◌≡◌, ◌+◌, ◌<◌, ◌==◌, if◌then◌else◌};
+ghost use Rattle.std.specs.Prelude.{◌≡◌, ◌+◌, ◌<◌, ◌==◌, true, if◌then◌else◌};
 ghost use Rattle.std.specs.List.{AllByRecursion};
 ghost use Rattle.mt_text_spec.specs.Texts.{unset};
 ghost use Rattle.mt_match_spec.specs.Labels.{no_labels, labelled, united, place_of_either};
@@ -36,6 +36,13 @@ impl Shape {
             length: 1,
             labels: label_at_begin(label),
         }
+    }
+
+    /// Whether no label is set.
+    pub(crate) fn is_unlabelled(&self) -> bool
+        ensures { result ≡ true → self.now.labels ≡ no_labels }
+    {
+        self.labels == [Row::UNSET; 9]
     }
 
     /// By the length, then by the labels.

@@ -1,4 +1,3 @@
-use Rattle.std.proofs.Common.{◌≡◌}
 use Rattle.mt_automaton.specs.LabelledParts.{labelled_meant}
 use Rattle.mt_automaton.specs.RowsFrom.{IsRowOfText}
 use Rattle.mt_shapes.proofs.Listed.{row_same, appends_renamed, longer_renamed}

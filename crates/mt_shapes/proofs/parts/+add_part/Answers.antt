@@ -1,4 +1,4 @@
-use Rattle.std.proofs.Common.{◌≡◌, List, [], subst, sym}
+use Rattle.std.proofs.Common.{List, [], subst, sym}
 use Rattle.std.proofs.lemmas.Result.{on_ok_weaker}
 use Rattle.mt_match_spec.specs.Matches.{Matches, Turns}
 use Rattle.mt_automaton.specs.Parts.{meant}

@@ -1,4 +1,4 @@
-use Rattle.std.proofs.Common.{◌≡◌, ◌+◌, ◌/◌, ◌<◌, ◌∙◌, length, ap, arith}
+use Rattle.std.proofs.Common.{◌≡◌, ◌+◌, ◌/◌, ◌∙◌, length, ap, arith}
 use Rattle.mt_shapes.specs.declared.shape.Shape.{Shape}
 use Rattle.mt_shapes.proofs.Whole.{empty_inside, whole}
 use Rattle.mt_shapes.proofs.parts.add_whole.Goals as goal

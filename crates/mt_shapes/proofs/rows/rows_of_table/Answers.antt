@@ -1,10 +1,8 @@
 use Rattle.std.proofs.Common.{◌≡◌, ◌≤◌, refl, Err, rules, arith}
-use Rattle.mt_rows.specs.Appends.{Begins}
 use Rattle.mt_rows.specs.declared.error.EvalError.TheVariants.{TooManyRows}
-use Rattle.mt_shapes.specs.Tables.{BeginsBelow}
 use Rattle.mt_shapes.proofs.Bits.{in_room}
-use Rattle.mt_shapes.proofs.Listed.{no_begins, next_begin, all_begins, row_begins, longer_than_room, begins_on, on_err_known}
-use Rattle.mt_shapes.proofs.rows.rows_of_begins.Goals as goal
+use Rattle.mt_shapes.proofs.Listed.{no_begins, next_begin, all_begins, longer_than_room}
+use Rattle.mt_shapes.proofs.rows.rows_of_table.Goals as goal
 
 pub loop-at-init : goal.loop-at-init
 loop-at-init c = record { count = refl; added = no_begins c.args.entries.now c.args.text c.args.room c.args.out.now }
@@ -22,7 +20,7 @@ loop-at-preserved c =
       count = omega (arith, h.count, c.in_ok-rows_at.ensures.longer, c.in_ok-rows_at.ensures.within);
       added =
           next_begin c.args.entries.now c.args.text c.args.room c.loop-at.left c.loop-at.from c.in-Some.at c.args.out.now c.loop-at.out c.rows_at.new.out found.from
-          (λ row r on low. found.none_before row.span.begin on low (row_begins c.args.entries.now c.args.begins.now c.args.text c.requires.all row r)) h.count h.added c.in_ok-rows_at.ensures.ok;
+          (λ row r on low. found.none_before row.span.begin on low (c.requires.all row r)) h.count h.added c.in_ok-rows_at.ensures.ok;
     }
 
 pub loop-at-smaller : goal.loop-at-smaller
@@ -33,7 +31,7 @@ loop-at-smaller c =
 pub returns-clause-ok : goal.returns-clause-ok
 returns-clause-ok c =
     all_begins c.args.entries.now c.args.text c.args.room c.loop-at.from c.args.out.now c.loop-at.out
-    (λ row r on. c.in_default.ensures.none row.span.begin on (row_begins c.args.entries.now c.args.begins.now c.args.text c.requires.all row r)) c.loop-at.invariant.added
+    (λ row r on. c.in_default.ensures.none row.span.begin on (c.requires.all row r)) c.loop-at.invariant.added
 
 pub returns-in_err-rows_at-clause-more : goal.returns-in_err-rows_at-clause-more
 returns-in_err-rows_at-clause-more c =

@@ -1,4 +1,4 @@
-use Rattle.std.proofs.Common.{◌≡◌, length, ◌∙◌, ap, arith}
+use Rattle.std.proofs.Common.{◌≡◌, length, ◌∙◌, ap}
 use Rattle.mt_match_spec.specs.Labels.{united}
 use Rattle.mt_shapes.proofs.Labels.{all_united, moved_length}
 use Rattle.mt_shapes.proofs.shape.united_labels.Goals as goal

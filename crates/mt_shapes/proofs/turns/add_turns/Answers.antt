@@ -1,4 +1,4 @@
-use Rattle.std.proofs.Common.{◌≡◌, ◌+◌, ◌<◌, ◌≤◌, List, length, subst, sym, ◌∙◌, eqb-true, vec_len, arith}
+use Rattle.std.proofs.Common.{◌≡◌, ◌+◌, List, length, subst, sym, ◌∙◌, eqb-true, vec_len, arith}
 use Rattle.mt_shapes.specs.declared.table.Entry.{Entry}
 use Rattle.mt_shapes.specs.Tables.{Adds, IsMatchOf}
 use Rattle.mt_shapes.proofs.Turning.{no_turns, next_turn, counted_of, run_dry}
