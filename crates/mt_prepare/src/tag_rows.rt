@@ -160,15 +160,54 @@ fn add_ends(set: &mut Places, instances: &[StructSpan])
     }
 }
 
-/// Where the span of a text ends that begins at a place and has a token: the shortest such span.
-pub(crate) fn longer_end(spans: &[Span], from: usize, to: usize, text: u32, at: u32) -> Option<u32>
+/// The places from which and up to which the first span lies that does not come before a key. It is looked for behind a place that is given, so that each of many keys
+/// in a row is found at once.
+fn bounds_near(spans: &[Span], from: usize, to: usize, key: Span, near: usize) -> (usize, usize)
+    requires sorted { AllPairs IsBefore spans.now }
+    requires order { from ≤ to }
+    requires within { to ≤ length spans.now }
+    requires before { (k : ℕ) (d : spec.Span) → k < from → IsBefore (slice_index_or spans.now k d) key }
+    requires behind { (k : ℕ) (d : spec.Span) → to ≤ k → k < length spans.now → ¬ IsBefore (slice_index_or spans.now k d) key }
+    ensures order { result.0 ≤ result.1 }
+    ensures within { result.1 ≤ length spans.now }
+    ensures before { (k : ℕ) (d : spec.Span) → k < result.0 → IsBefore (slice_index_or spans.now k d) key }
+    ensures behind { (k : ℕ) (d : spec.Span) → result.1 ≤ k → k < length spans.now → ¬ IsBefore (slice_index_or spans.now k d) key }
+{
+    if near >= to {
+        return (from, to);
+    }
+    if !is_before(spans[near], key) {
+        return (from, to);
+    }
+    let next = near + 1;
+    if next >= to {
+        return (next, to);
+    }
+    if is_before(spans[next], key) {
+        return (next, to);
+    }
+    (next, next)
+}
+
+/// Where the span of a text ends that begins at a place and has a token: the shortest such span. `near` is where the one before was found, or any number.
+pub(crate) fn longer_end(
+    spans: &[Span],
+    from: usize,
+    to: usize,
+    text: u32,
+    at: u32,
+    near: &mut usize,
+) -> Option<u32>
     requires sorted { AllPairs IsBefore spans.now }
     requires stand { StandBetween spans.now text from to }
     requires few { at < 4294967295 }
     ensures some { IfSome result (λ end. IsLongerAt spans.now text at end) }
     ensures none { IfNone result ((end : ℕ) → ¬ IsLongerAt spans.now text at end) }
 {
-    let place = first_from(spans, from, to, Span::new(text, at, at + 1));
+    let key = Span::new(text, at, at + 1);
+    let (low, high) = bounds_near(spans, from, to, key, *near);
+    let place = first_from(spans, low, high, key);
+    *near = place;
     if place >= spans.len() {
         return None;
     }

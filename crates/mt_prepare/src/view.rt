@@ -99,14 +99,14 @@ impl<'a> View for TextView<'a> {
         }
     }
 
-    fn whole_end(&self, tag: u32, at: u32) -> Option<u32> {
+    fn whole_end(&self, tag: u32, at: u32, near: &mut usize) -> Option<u32> {
         instances_lie_in_texts();
         if at >= self.tokens || tag as usize >= self.rows.len() {
             return None;
         }
         let rows = &self.rows[tag as usize];
         let spans = self.spans[tag as usize].as_slice();
-        longer_end(spans, rows.from, rows.to, self.text, at)
+        longer_end(spans, rows.from, rows.to, self.text, at, near)
     }
 
     fn last_end(&self, tag: u32, at: u32) -> u32 {
