@@ -1,5 +1,5 @@
 -- Words that ascend.
-use Rattle.std.proofs.Common.{◌≡◌, ◌≢◌, ℕ, zero, suc, ◌+◌, ◌<◌, ◌≤◌, Bool, true, false, cond, Some, List, [], ◌∷◌, ◌++◌, length, get_or, slice_get, refl, sym, ap, subst, ◌∙◌, arith, ◌⊎◌, inl, inr}
+use Rattle.std.proofs.Common.{◌≡◌, ◌≢◌, ℕ, ◌+◌, ◌<◌, ◌≤◌, Bool, false, cond, Some, List, [], ◌∷◌, ◌++◌, length, get_or, slice_get, refl, sym, ap, subst, ◌∙◌, arith, ◌⊎◌, inl, inr}
 use Rattle.std.specs.List.{AllPairs, Contains, IsDistinct, dedup, dedup_from}
 use Rattle.std.specs.List.Sorted.{IsStrictlySortedBy, IsSorted, IsPermutation}
 use Rattle.std.specs.Ordering.{nat_cmp}
@@ -12,16 +12,15 @@ use Rattle.std.proofs.lemmas.List.Kept.{IsStrictlySortedBy-dedup}
 use Rattle.std.proofs.lemmas.List.Sorted.{Contains-permutation, IsPermutation-sym}
 use Rattle.std.proofs.lemmas.Map.Keys.{IsDistinct-IsPermutation, IsDistinct-head, IsDistinct-tail}
 use Rattle.std.proofs.lemmas.Map.Made.{IsDistinct-from_AllPairs}
-use Rattle.std.proofs.lemmas.Option.{slice_get_within, get_or_from_slice_get, slice_get-get_or}
+use Rattle.std.proofs.lemmas.Option.{slice_get-get_or}
 use Rattle.mt_counts.specs.Names.{AreDistinct}
-use Rattle.mt_counts.specs.Totals.{total, count_at}
-use Rattle.mt_counts.specs.Tallies.{IsAt, AreOnce, IsPlaced, HasPlaced, ListsOnce}
+use Rattle.mt_counts.specs.Tallies.{IsAt, AreOnce, HasPlaced, ListsOnce}
 use Rattle.mt_counts.specs.Counted.{is_two}
-use Rattle.mt_counts.specs.Tables.{text_at, named_word, by_name, counted, AreInside}
+use Rattle.mt_counts.specs.Tables.{text_at, named_word, counted, AreInside}
 use Rattle.mt_counts.specs.Listed.{StandsFirst, AreFirstWords}
 use Rattle.mt_counts.specs.declared.tables.Tables.{Tables}
 use Rattle.mt_counts.proofs.Totals.{total-map}
-use Rattle.mt_counts.proofs.Lists.{HasSome, total-some, two_same}
+use Rattle.mt_counts.proofs.Lists.{total-some, two_same}
 use Rattle.mt_counts.proofs.Keys.{name_counts, count_there, text_is}
 
 -- ---- texts that differ, in order, ascend

@@ -1,11 +1,10 @@
 -- The second words of a row.
-use Rattle.std.proofs.Common.{◌≡◌, ℕ, ◌+◌, ◌<◌, ◌≤◌, Bool, Some, List, [], ◌∷◌, ◌++◌, length, map, take, append_assoc, get_or, slice_get, refl, sym, ap, subst, ◌∙◌, arith}
+use Rattle.std.proofs.Common.{◌≡◌, ℕ, ◌+◌, ◌<◌, Bool, Some, List, [], ◌∷◌, ◌++◌, length, map, take, append_assoc, get_or, slice_get, refl, sym, ap, subst, ◌∙◌, arith}
 use Rattle.std.specs.Map.{keys_of}
-use Rattle.std.specs.List.{Contains}
 use Rattle.std.proofs.lemmas.List.{take_more, map-append}
-use Rattle.std.proofs.lemmas.Option.{slice_get_within, get_or_from_slice_get, slice_get-get_or}
+use Rattle.std.proofs.lemmas.Option.{get_or_from_slice_get, slice_get-get_or}
 use Rattle.mt_counts.specs.Names.{AreDistinct}
-use Rattle.mt_counts.specs.Totals.{total, count_at}
+use Rattle.mt_counts.specs.Totals.{count_at}
 use Rattle.mt_counts.specs.Tallies.{IsAt, AreOnce, IsPlaced, ListsOnce}
 use Rattle.mt_counts.specs.Counted.{is_three, f, f_second}
 use Rattle.mt_counts.specs.Tables.{text_at, row_at, three_of, named_word, counted, AreInside}
@@ -13,7 +12,7 @@ use Rattle.mt_counts.specs.Listed.{IsPair, entry_at, pair_at}
 use Rattle.mt_counts.specs.declared.tables.Tables.{Tables}
 use Rattle.mt_counts.specs.declared.pairs.Pair.{Pair}
 use Rattle.mt_counts.proofs.Totals.{total-map}
-use Rattle.mt_counts.proofs.Lists.{HasSome, total-some, lists_map, entry_is, same_text}
+use Rattle.mt_counts.proofs.Lists.{total-some, lists_map, entry_is, same_text}
 use Rattle.mt_counts.proofs.Sums.{row_stands}
 use Rattle.mt_counts.proofs.Keys.{name_counts, three_counts, second_placed, count_there, no_row}
 

@@ -1,9 +1,9 @@
 -- Counts that are taken away.
-use Rattle.std.proofs.Common.{◌≡◌, ℕ, ◌+◌, ◌-◌, ◌<◌, ◌≤◌, Bool, true, false, Some, List, [], ◌∷◌, length, map, take, slice_get, refl, sym, ap, subst, ◌∙◌, arith, add-one, if◌then◌else◌}
+use Rattle.std.proofs.Common.{◌≡◌, ℕ, ◌+◌, ◌≤◌, Bool, true, false, Some, List, [], ◌∷◌, length, map, take, slice_get, refl, sym, ap, subst, ◌∙◌, arith, add-one, if◌then◌else◌}
 use Rattle.std.specs.Map.{keys_of}
 use Rattle.std.specs.Option.{option_map}
 use Rattle.std.proofs.lemmas.Option.{slice_get-map}
-use Rattle.mt_counts.specs.Totals.{total, count_at, IsLowered, CountNoMore, AddUp}
+use Rattle.mt_counts.specs.Totals.{total, IsLowered, CountNoMore, AddUp}
 use Rattle.mt_counts.specs.Tallies.{IsAt, IsRaised, HasKeysBelow}
 use Rattle.mt_counts.specs.Counted.{IsSum, IsWithin, is_two, is_three}
 use Rattle.mt_counts.specs.Tables.{by_name, by_row, counted, AreInside}

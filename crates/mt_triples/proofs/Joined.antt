@@ -1,5 +1,5 @@
 -- Sums over two lists of texts.
-use Rattle.std.proofs.Common.{◌≡◌, ℕ, ◌+◌, List, [], ◌∷◌, ◌++◌, sym, subst, arith}
+use Rattle.std.proofs.Common.{◌≡◌, ℕ, ◌+◌, ◌≤◌, List, [], ◌∷◌, ◌++◌, sym, subst, arith}
 use Rattle.mt_text_spec.specs.Texts.{Text}
 use Rattle.mt_count_spec.specs.Counts.{Summed, OverNone, OverOne}
 
@@ -34,3 +34,38 @@ summed_left Of corpus others a b sum one e whole first =
     let same = one a parts.here first parts.first in
     let is = parts.is in
     subst (λ (n : ℕ). Summed Of others n) (omega (arith, same, is, e)) parts.second
+
+-- a sum over three lists of texts, parted
+pub record PartedInThree (Of : Text → ℕ → Type 0) (before texts behind : List Text) (sum : ℕ) : Type 0 where
+  pub front : ℕ
+  pub here : ℕ
+  pub back : ℕ
+  pub first : Summed Of before front
+  pub second : Summed Of texts here
+  pub third : Summed Of behind back
+  pub is : sum ≡ front + (here + back)
+
+in_three : (Of : Text → ℕ → Type 0) (before texts behind : List Text) (sum : ℕ) → Summed Of (before ++ texts ++ behind) sum → PartedInThree Of before texts behind sum
+in_three Of before texts behind sum h =
+    let outer = summed_parted Of (before ++ texts) behind sum h in
+    let inner = summed_parted Of before texts outer.here outer.first in
+    let first = outer.is in
+    let second = inner.is in
+    record { front = inner.here; here = inner.there; back = outer.there; first = inner.first; second = inner.second; third = outer.second; is = omega (arith, first, second) }
+
+-- a part is no more than the whole
+pub part_within : (Of : Text → ℕ → Type 0) (before texts behind : List Text) (part sum : ℕ) → ((m n : ℕ) → Summed Of texts m → Summed Of texts n → m ≡ n) → Summed Of (before ++ texts ++ behind) sum → Summed Of texts part → part ≤ sum
+part_within Of before texts behind part sum one whole first =
+    let parts = in_three Of before texts behind sum whole in
+    let same = one part parts.here first parts.second in
+    let is = parts.is in
+    omega (arith, same, is)
+
+-- what is left when a part is taken away
+pub rest_left : (Of : Text → ℕ → Type 0) (before texts behind : List Text) (part rest sum : ℕ) → ((m n : ℕ) → Summed Of texts m → Summed Of texts n → m ≡ n) → sum ≡ part + rest → Summed Of (before ++ texts ++ behind) sum → Summed Of texts part →
+    Summed Of (before ++ behind) rest
+rest_left Of before texts behind part rest sum one e whole first =
+    let parts = in_three Of before texts behind sum whole in
+    let same = one part parts.here first parts.second in
+    let is = parts.is in
+    subst (λ (n : ℕ). Summed Of (before ++ behind) n) (omega (arith, same, is, e)) (summed_append Of before behind parts.front parts.back parts.first parts.third)

@@ -1,1 +1,4 @@
 pub mod Joined
+pub mod Telling
+pub mod Numbered
+pub mod Existing

@@ -1,1 +1,3 @@
 pub mod CountsOf
+pub mod Told
+pub mod Tallied

@@ -1,10 +1,9 @@
 use Rattle.mt_counts.specs.Counted.{is_two}
 use Rattle.mt_counts.specs.Tables.{by_name, named_word}
-use Rattle.mt_counts.specs.Tallies.{IsAt}
 use Rattle.std.proofs.Common.{length}
 use Rattle.mt_counts.proofs.Keys.{text_is}
 use Rattle.mt_counts.proofs.Lists.{two_own}
-use Rattle.mt_counts.proofs.Taking.{taking_more, taking_all, keys_below, entry_shown}
+use Rattle.mt_counts.proofs.Taking.{taking_more, keys_below, entry_shown}
 use Rattle.mt_counts.proofs.lowering.lower_names.Goals as goal
 
 pub get-name-requires : goal.get-name-requires
