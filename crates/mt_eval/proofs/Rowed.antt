@@ -141,6 +141,10 @@ module _ (tables : Tables) (expr : q.Expr) (tests : List Resolved) (text : ℕ) 
       appended = sym (append-nil old);
     }
 
+    -- where the test does not say so, the sequence is not met
+    pub not_met : by < length tests → (SaysAt tables (test_at tests by) place → ⊥) → (begin : ℕ) → BeginsAt tables tests by (first_place tables text) (first_place tables (text + 1)) place begin → ⊥
+    not_met within never begin b = never (subst (SaysAt tables (test_at tests by)) b.at (b.say by (omega arith) within))
+
     pub one_row : (room begin : ℕ) (old new : List Row) → BeginsAt tables tests by (first_place tables text) (first_place tables (text + 1)) place begin → 0 < room → new ≡ old ++ row_from expr text begin ∷ [] → Appends (IsRowAt tables expr text by place) room old new
     one_row room begin old new b some e = record {
       rows = row_from expr text begin ∷ [];

@@ -1,6 +1,6 @@
 //! The rows of one expression of a query.
 
-ghost use Rattle.std.specs.Prelude.{◌≡◌, ◌+◌, ◌-◌, ◌*◌, ◌<◌, ◌≤◌, [], length, IfOk, OnOk, IsErrOf};
+ghost use Rattle.std.specs.Prelude.{◌≡◌, ◌+◌, ◌-◌, ◌*◌, ◌<◌, ◌≤◌, [], length, IsTrue, IfOk, OnOk, IsErrOf};
 ghost use Rattle.std.specs.List.{All};
 ghost use Rattle.mt_text_spec.specs.Texts as spec;
 ghost use Rattle.mt_text_spec.specs.Queries as q;
@@ -14,11 +14,12 @@ ghost use Rattle.mt_eval_spec.specs.Told.{IsFor, told};
 ghost use Rattle.mt_eval_spec.specs.RowsIn.{PassesRoom, RowsIn, expr_at, heads};
 ghost use Rattle.mt_eval_spec.specs.Literals.{AreEquals, AreFew};
 ghost use Rattle.mt_eval.specs.Runs.{AreTexts};
-ghost use Rattle.mt_eval.specs.Sequences.{AreTestsOf, IsOne, positions_of, test_at};
+ghost use Rattle.mt_eval.specs.Sequences.{AreTestsOf, IsOne, IsSequence, positions_of, test_at};
 ghost use Rattle.mt_eval.specs.Walks.{IsLeft, due, left_of};
 
 use super::rarest::{looked_by, positions};
-use super::sequence::{Sequence, add_rows};
+use super::scan::scan_text;
+use super::sequence::{Sequence, add_rows, is_sequence};
 use super::walk::Walk;
 use mt_automaton::{Automaton, Pool, labels_stand};
 use mt_base::Steps;
@@ -31,6 +32,9 @@ use mt_segment_laws::tables_are_whole;
 use mt_shapes::{Work, rows_of_text};
 use std::alloc::Global;
 use std::sync::ledger::Ledger;
+
+/// The tokens of a segment that are looked at one after another, for which an automaton would be made at greater cost.
+const FEW_TOKENS: u32 = 256;
 
 /// What is asked: a query that is ready for a segment, of some texts of it.
 #[derive(Clone, Copy, Drop)]
@@ -130,6 +134,70 @@ fn rows_by_automaton<L: Ledger>(
     let mut pool = Pool::new(alloc);
     let mut sighted = Sighted::new(alloc, &mut pool, expr, ready, asked.segment, steps)?;
     rows_in_texts(alloc, asked, expr, ready, &automaton, &mut sighted, room)
+}
+
+/// The rows of a sequence in the texts. Each of their tokens is looked at.
+fn rows_by_scan<L: Ledger>(
+    alloc: Global,
+    asked: &Asked<'_>,
+    sequence: &Sequence<'_>,
+    room: u32,
+    steps: &mut Steps<L>,
+) -> Result<Rows, EvalError>
+    requires query { IsFor asked.now.segment.now asked.now.query.now }
+    requires texts { AreTexts asked.now.segment.now asked.now.texts.now }
+    requires valid { (number : _) × (number < length (heads asked.now.query.now)) × (expr_at (heads asked.now.query.now) number ≡ shape sequence.now.expr.now) }
+    requires tests { AreTestsOf asked.now.segment.now (shape sequence.now.expr.now) sequence.now.tests.now }
+    requires by { sequence.now.by < length sequence.now.tests.now }
+    ensures rows { IfOk result (λ rows. RowsIn asked.now.segment.now asked.now.texts.now (shape sequence.now.expr.now) rows) }
+    ensures room { IfOk result (λ rows. length rows ≤ room) }
+    ensures too_many { IsErrOf result EvalError.TooManyRows → PassesRoom asked.now.segment.now asked.now.texts.now (shape sequence.now.expr.now) room }
+    ensures rises { steps.old ≤ steps.new }
+{
+    have_rows_in();
+    no_more_than_all();
+    let mut out = Rows::new(alloc);
+    for text in asked.texts {
+        let left = room - out.len() as u32;
+        scan_text(sequence, asked.segment, *text, left, steps, &mut out)?;
+    }
+    Ok(out)
+}
+
+/// Whether the tokens of a segment are looked at one after another for an expression: they are few, and it is one test of a token after another.
+fn is_scanned(segment: &Segment, expr: &Expr) -> bool
+    ensures { IsTrue result → IsSequence (shape expr.now) }
+{
+    segment.tokens() <= FEW_TOKENS && is_sequence(expr)
+}
+
+/// The rows of an expression in the texts, where no posting list is gone through.
+fn rows_by_places<L: Ledger>(
+    alloc: Global,
+    asked: &Asked<'_>,
+    expr: &Expr,
+    ready: &PreparedExpr,
+    room: u32,
+    steps: &mut Steps<L>,
+) -> Result<Rows, EvalError>
+    requires query { IsFor asked.now.segment.now asked.now.query.now }
+    requires texts { AreTexts asked.now.segment.now asked.now.texts.now }
+    requires valid { (number : _) × (number < length (heads asked.now.query.now)) × (expr_at (heads asked.now.query.now) number ≡ shape expr.now) }
+    requires ready { IsReady asked.now.segment.now (shape expr.now) ready.now }
+    ensures rows { IfOk result (λ rows. RowsIn asked.now.segment.now asked.now.texts.now (shape expr.now) rows) }
+    ensures room { IfOk result (λ rows. length rows ≤ room) }
+    ensures too_many { IsErrOf result EvalError.TooManyRows → PassesRoom asked.now.segment.now asked.now.texts.now (shape expr.now) room }
+    ensures rises { steps.old ≤ steps.new }
+{
+    if !is_scanned(asked.segment, expr) {
+        return rows_by_automaton(alloc, asked, expr, ready, room, steps);
+    }
+    let sequence = Sequence {
+        expr,
+        tests: ready.tests.as_slice(),
+        by: 0,
+    };
+    rows_by_scan(alloc, asked, &sequence, room, steps)
 }
 
 /// Adds the rows of a sequence in the texts, by the positions that are left.
@@ -232,7 +300,7 @@ pub(crate) fn rows_of<L: Ledger>(
     let ready = asked.prepared.exprs.get(number);
     match looked_by(asked.segment, expr, ready.tests.as_slice()) {
         None => {
-            let rows = rows_by_automaton(alloc, asked, expr, ready, room, steps)?;
+            let rows = rows_by_places(alloc, asked, expr, ready, room, steps)?;
             Ok(RowList::new(rows))
         }
         Some(by) => {

@@ -17,6 +17,7 @@ mod kept;
 mod looks;
 mod rarest;
 mod run;
+mod scan;
 mod sequence;
 mod walk;
 

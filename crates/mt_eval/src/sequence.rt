@@ -149,7 +149,7 @@ fn begin_at<L: Ledger>(
 }
 
 /// Adds the row of a text, where there is one, whose token at a place of the segment meets the test that the sequence is looked for by.
-fn add_at<L: Ledger>(
+pub(crate) fn add_at<L: Ledger>(
     sequence: &Sequence<'_>,
     segment: &Segment,
     text: u32,

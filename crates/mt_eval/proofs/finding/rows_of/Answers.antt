@@ -14,8 +14,8 @@ get-ready-requires g c =
     let count = same_count (IsReady c.args.asked.now.segment.now) (heads c.args.asked.now.query.now) c.args.asked.now.prepared.now.exprs c.requires.prepared in
     let low = c.requires.number in omega (arith, count, low)
 
-pub rows_by_automaton-requires-clause-ready : goal.rows_by_automaton-requires-clause-ready
-rows_by_automaton-requires-clause-ready g c =
+pub rows_by_places-requires-clause-ready : goal.rows_by_places-requires-clause-ready
+rows_by_places-requires-clause-ready g c =
     let T = c.args.asked.now.segment.now in
     rw c.get-ready.ensures
     (subst (λ (e : Expr). IsReady T e (get_or c.args.asked.now.prepared.now.exprs c.args.number c.get-ready.result.now)) c.requires.expr
