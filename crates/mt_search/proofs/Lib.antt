@@ -2,3 +2,4 @@ pub mod Places
 pub mod Order
 pub mod Finding
 pub mod Groups
+pub mod Taken

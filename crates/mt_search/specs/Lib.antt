@@ -1,2 +1,3 @@
 pub mod Finds
 pub mod Refused
+pub mod Steps

@@ -1,16 +1,18 @@
 //! What is found in the texts so far.
 
-ghost use Rattle.std.specs.Prelude.{◌≡◌, ◌+◌, ◌≤◌, ◌++◌, [], List as Items, length, IfOk, OnOk, IsErrOf};
+ghost use Rattle.std.specs.Prelude.{◌≡◌, ◌+◌, ◌-◌, ◌≤◌, ◌++◌, [], List as Items, length, IfOk, OnOk, IsErrOf};
 ghost use Rattle.mt_text_spec.specs.Registries as registries;
 ghost use Rattle.mt_text_spec.specs.Texts as spec;
 ghost use Rattle.mt_match_spec.specs.Values.{Images};
 ghost use Rattle.mt_eval_spec.specs.Told.{IsFor};
 ghost use Rattle.mt_eval_spec.specs.Asked.{query_patterns};
 ghost use Rattle.mt_eval_spec.specs.RowsIn.{heads};
+ghost use Rattle.mt_eval_spec.specs.Literals.{IsPlain};
 ghost use Rattle.mt_eval.specs.Runs.{AreTexts};
 ghost use Rattle.mt_corpus_spec.specs.Groups.{Group, live_texts};
 ghost use Rattle.mt_corpus_laws.specs.Joined.{SomeHasTooMany};
 ghost use Rattle.mt_search.specs.Finds.{AreInOrder, Finds, IsNext};
+ghost use Rattle.mt_search.specs.Steps.{TakesIn};
 
 use super::placing::add_placed;
 use super::rooms::whole_rooms;
@@ -77,6 +79,8 @@ impl Found {
             → IsErrOf result EvalError.TooManyRows → SomeHasTooMany images registry (corpus ++ live_texts group) (heads query.now) }
         ensures patterns { patterns.new ≡ patterns.old }
         ensures shop { P.refused shop.new ≡ P.refused shop.old }
+        ensures rises { steps.old ≤ steps.new }
+        ensures takes { IsPlain query.now → TakesIn query.now segment.now (steps.new - steps.old) }
     {
         kept_are_joined();
         rows_are_joined();

@@ -1,18 +1,20 @@
 //! The search in a corpus.
 
-ghost use Rattle.std.specs.Prelude.{◌≡◌, IfOk, IfErr, OnOk, IsErrOf};
+ghost use Rattle.std.specs.Prelude.{◌≡◌, ◌-◌, ◌≤◌, IfOk, IfErr, OnOk, IsErrOf};
 ghost use Rattle.std.specs.List.{All};
 ghost use Rattle.mt_query_spec.specs.Valid.{ValidQuery};
 ghost use Rattle.mt_match_spec.specs.Kept.{Kept, Over};
 ghost use Rattle.mt_match_spec.specs.Values.{Images};
 ghost use Rattle.mt_eval_spec.specs.Asked.{query_patterns};
 ghost use Rattle.mt_eval_spec.specs.RowsIn.{heads};
+ghost use Rattle.mt_eval_spec.specs.Literals.{IsPlain};
 ghost use Rattle.mt_prepare.specs.Built.{IsWhole};
 ghost use Rattle.mt_corpus_spec.specs.Groups.{corpus_of};
 ghost use Rattle.mt_corpus_spec.specs.Images.{AreImagesBy};
 ghost use Rattle.mt_corpus_laws.specs.Joined.{SomeHasTooMany};
 ghost use Rattle.mt_search.specs.Finds.{AreInOrder, Finds};
 ghost use Rattle.mt_search.specs.Refused.{RefusesBy};
+ghost use Rattle.mt_search.specs.Steps.{TakesInAll};
 
 use super::error::RowsError;
 use super::found::Found;
@@ -44,6 +46,8 @@ fn found_in<P: PatternShop, L: Ledger>(
     ensures too_many { (images : Images) → AreImagesBy images corpus.now.taken
         → IsErrOf result EvalError.TooManyRows → SomeHasTooMany images corpus.now.registry (corpus_of corpus.now.groups) (heads query.now) }
     ensures shop { P.refused shop.new ≡ P.refused shop.old }
+    ensures rises { steps.old ≤ steps.new }
+    ensures takes { IsPlain query.now → (images : Images) → AreImagesBy images corpus.now.taken → TakesInAll images corpus.now.registry query.now corpus.now.groups (steps.new - steps.old) }
 {
     groups_are_told();
     have_rows();
@@ -66,7 +70,8 @@ fn found_in<P: PatternShop, L: Ledger>(
 
 /// All rows that a query keeps in a corpus, ascending; the texts of the corpus are numbered from 0 on. The patterns of the query are built first, whatever the
 /// corpus holds, and the shop refuses nothing but the pattern for which it is blamed. Too many are more than 4,194,304 rows of the head or of an operand in all
-/// texts, before filters and conditions.
+/// texts, before filters and conditions. A sequence of `==` tests alone takes no more steps in a segment, removed texts among its own, than it takes to find each value
+/// once and to put each test to a token at each position of the rarest value.
 pub fn rows<P: PatternShop, L: Ledger>(
     alloc: Global,
     corpus: &Corpus,
@@ -81,6 +86,8 @@ pub fn rows<P: PatternShop, L: Ledger>(
     ensures whole { OnOk result (All IsWhole (query_patterns query.now)) }
     ensures blames { IfErr result (RefusesBy (query_patterns query.now) (P.refused shop.old) (P.refused shop.new)) }
     ensures shop { OnOk result (P.refused shop.new ≡ P.refused shop.old) }
+    ensures rises { steps.old ≤ steps.new }
+    ensures takes { IsPlain query.now → (images : Images) → AreImagesBy images corpus.now.taken → TakesInAll images corpus.now.registry query.now corpus.now.groups (steps.new - steps.old) }
 {
     over_is_some();
     rows_are_one();

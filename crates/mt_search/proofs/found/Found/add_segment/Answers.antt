@@ -11,6 +11,7 @@ use Rattle.mt_corpus_laws.specs.Joined.{SomeHasTooMany, placed}
 use Rattle.mt_search.specs.Finds.{Finds, IsNext}
 use Rattle.mt_search.proofs.Finding.{found_more, listed_in, passes_limit}
 use Rattle.mt_search.proofs.Order.{order_more}
+use Rattle.mt_search.proofs.Taken.{only_found, taken}
 use Rattle.mt_search.proofs.found.Found.add_segment.Goals as goal
 
 pub returns-in_err-rows-clause-too_many : goal.returns-in_err-rows-clause-too_many
@@ -38,3 +39,22 @@ returns-clause-finds g c = λ images registry corpus group next finds.
     c.in_ok-rows.rows c.add_placed.new.rows c.eval.new.rooms c.in_ok-texts.texts c.in_ok-rows.ensures.kept c.in_ok-rows.ensures.rooms
     (c.in_ok-add_placed.ensures ∙ ap (λ (ns : List ℕ). c.args.self.now.rows ++ map (placed c.args.self.now.texts ns) c.in_ok-rows.rows) c.as_slice.ensures)
     (c.in_ok-texts.ensures.number ∙ ap (λ (n : ℕ). c.args.self.now.texts + n) c.len.ensures)
+
+pub returns-in_err-prepared-clause-takes : goal.returns-in_err-prepared-clause-takes
+returns-in_err-prepared-clause-takes g c = λ plain. only_found c.args.segment.now c.args.query.now c.args.steps.now c.prepare.new.steps c.prepare.ensures.rises (c.prepare.ensures.finds plain)
+
+pub returns-in_err-rows-clause-takes : goal.returns-in_err-rows-clause-takes
+returns-in_err-rows-clause-takes g c = λ plain.
+    taken c.args.segment.now c.args.query.now c.args.steps.now c.prepare.new.steps c.eval.new.steps c.prepare.ensures.rises c.eval.ensures.rises (c.prepare.ensures.finds plain) (c.eval.ensures.few plain)
+
+pub returns-in_err-texts-clause-takes : goal.returns-in_err-texts-clause-takes
+returns-in_err-texts-clause-takes g c = λ plain.
+    taken c.args.segment.now c.args.query.now c.args.steps.now c.prepare.new.steps c.eval.new.steps c.prepare.ensures.rises c.eval.ensures.rises (c.prepare.ensures.finds plain) (c.eval.ensures.few plain)
+
+pub returns-in_err-add_placed-clause-takes : goal.returns-in_err-add_placed-clause-takes
+returns-in_err-add_placed-clause-takes g c = λ plain.
+    taken c.args.segment.now c.args.query.now c.args.steps.now c.prepare.new.steps c.eval.new.steps c.prepare.ensures.rises c.eval.ensures.rises (c.prepare.ensures.finds plain) (c.eval.ensures.few plain)
+
+pub returns-clause-takes : goal.returns-clause-takes
+returns-clause-takes g c = λ plain.
+    taken c.args.segment.now c.args.query.now c.args.steps.now c.prepare.new.steps c.eval.new.steps c.prepare.ensures.rises c.eval.ensures.rises (c.prepare.ensures.finds plain) (c.eval.ensures.few plain)
