@@ -3,7 +3,7 @@
 ghost use Rattle.std.specs.Prelude.{◌≡◌, ◌↔◌, ℕ, List as Items, map, IsTrue, IfOk, false};
 ghost use Rattle.mt_shelf_spec.specs.Files.{Files};
 ghost use Rattle.mt_text_spec.specs.Registries.{ValidRegistry};
-ghost use Rattle.mt_segment.specs.Mappers.{named};
+ghost use Rattle.mt_segment.specs.Mappers.{AreThere, named};
 ghost use Rattle.mt_script_spec.specs.Commands as spec;
 ghost use Rattle.mt_session_spec.specs.Settings.{Setting};
 ghost use Rattle.mt_session_spec.specs.Registering.{IsLate};
@@ -20,7 +20,7 @@ use mt_base::{List, NoMemory, Registry, Value};
 use mt_corpus::{Corpus, keep_named};
 use mt_mapper::Mapper;
 use mt_registry::{RegistryError, one_registry_answer, read_registry};
-use mt_segment::has_mappers;
+use mt_registry_laws::mappers_are_at_hand;
 use mt_session_laws::held_is_valid;
 use std::alloc::Global;
 
@@ -85,6 +85,7 @@ impl State {
         ensures means { ReadsRegistry setting self.old.held bytes.now result self.new.held }
         ensures serves { Serves setting (named M.called M.image mappers.new.items) self.new }
     {
+        mappers_are_at_hand();
         let Ok(names) = names_of(self.alloc, mappers) else {
             return Reply::NoMemory;
         };
@@ -100,15 +101,13 @@ impl State {
     fn keep_registry<M: Mapper>(&mut self, registry: Registry, mappers: &mut Vec<M>) -> Reply
         ghost setting: { Setting }
         requires valid { ValidRegistry registry }
+        requires there { AreThere (map M.called mappers.old.items) registry.attrs }
         requires early { self.old.held.accepted ≡ false }
         requires serves { Serves setting (named M.called M.image mappers.old.items) self.old }
         ensures means { SetsRegistry self.old.held registry result self.new.held }
         ensures serves { Serves setting (named M.called M.image mappers.new.items) self.new }
     {
         held_is_valid();
-        if !has_mappers(&registry, mappers) {
-            return Reply::NoMemory;
-        }
         let Ok(line) = ok_line(self.alloc) else {
             return Reply::NoMemory;
         };

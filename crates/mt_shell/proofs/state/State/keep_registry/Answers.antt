@@ -1,10 +1,6 @@
-use Rattle.std.proofs.Common.{rules}
 use Rattle.mt_segment.specs.Mappers.{named}
 use Rattle.mt_shell.proofs.Registering.{set, set_not, registry_changed, serves_registry, names_there}
 use Rattle.mt_shell.proofs.state.State.keep_registry.Goals as goal
-
-pub returns-then-not-has_mappers-clause-means : goal.returns-then-not-has_mappers-clause-means
-returns-then-not-has_mappers-clause-means g c = set_not c.args.self.now.held c.args.registry
 
 pub returns-in_default-clause-means : goal.returns-in_default-clause-means
 returns-in_default-clause-means g c = set_not c.args.self.now.held c.args.registry
@@ -16,4 +12,4 @@ returns-clause-means g c = set c.args.self.now.held _ c.args.registry c.in-Ok.li
 pub returns-clause-serves : goal.returns-clause-serves
 returns-clause-serves g c =
     serves_registry g.setting (named g.M.Mapper.called g.M.Mapper.image c.args.mappers.now.items) (named g.M.Mapper.called g.M.Mapper.image c.keep_named.new.mappers.items) c.args.self.now c.args.registry c.new.result c.new.ensures
-    c.requires.1.1.1.1 c.requires.1.1.1.0 (names_there g.M.Mapper.called g.M.Mapper.image c.keep_named.new.mappers.items c.args.registry (c.keep_named.ensures.there (rw c.deref.ensures.value at (c.has_mappers.ensures.0 (search rules))))) c.keep_named.ensures.images
+    c.requires.1.1.1.1.1 c.requires.1.1.1.1.0 (names_there g.M.Mapper.called g.M.Mapper.image c.keep_named.new.mappers.items c.args.registry (c.keep_named.ensures.there c.requires.1.1.1.0)) c.keep_named.ensures.images

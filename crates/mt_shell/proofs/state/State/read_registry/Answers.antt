@@ -1,9 +1,15 @@
-use Rattle.std.proofs.Common.{◌∙◌, ap, map}
+use Rattle.std.proofs.Common.{◌∙◌, ap, map, rules}
 use Rattle.mt_shell.proofs.Registering.{good, bad_line, baseless, unread, names_are}
 use Rattle.mt_shell.proofs.state.State.read_registry.Goals as goal
 
 pub returns-in_default-clause-means : goal.returns-in_default-clause-means
 returns-in_default-clause-means g c = unread g.setting c.args.self.now.held c.args.bytes.now
+
+pub keep_registry-requires-send-M : goal.keep_registry-requires-send-M
+keep_registry-requires-send-M g c κs within =
+    let same = c.in-Ok.ensures ∙ ap (map g.M.Mapper.called) c.deref.ensures.value in
+    let there = c.mappers_are_at_hand.ensures (map g.M.Mapper.called c.args.mappers.now.items) c.args.bytes.now c.in-Ok-read_registry.registry (rw (c.as_slice.ensures, same) at c.in-Ok-read_registry.ensures.read) in
+    (search rules, (search rules, (search rules, (there, (search rules, search rules)))))
 
 pub returns-in-Ok-read_registry-clause-means : goal.returns-in-Ok-read_registry-clause-means
 returns-in-Ok-read_registry-clause-means g c =
