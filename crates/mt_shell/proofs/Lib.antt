@@ -8,6 +8,7 @@ pub mod Removing
 pub mod Registering
 pub mod Runs
 pub mod Talks
+pub mod Demos
 pub mod Endings
 pub mod Scripts
 pub mod Listing

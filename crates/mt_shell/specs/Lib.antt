@@ -6,5 +6,5 @@ pub mod Outsides
 pub mod Fetches
 pub mod Answers
 pub mod Reads
-pub mod Words
+pub mod Demos
 pub mod Ends

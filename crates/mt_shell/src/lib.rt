@@ -4,6 +4,7 @@
 mod edge;
 mod fetch;
 mod laws;
+mod script;
 mod session;
 mod state;
 mod talk;

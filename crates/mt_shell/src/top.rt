@@ -1,6 +1,6 @@
 //! The run of a whole script.
 
-ghost use Rattle.std.specs.Prelude.{◌≡◌, ◌≢◌, ◌≤◌, ◌⊎◌, ◌↔◌, [], length, false, IsTrue};
+ghost use Rattle.std.specs.Prelude.{◌≡◌, ◌≢◌, ◌<◌, ◌≤◌, ◌⊎◌, [], length, false, None, Some, IfSome};
 ghost use Rattle.mt_outside.specs.Told.{Told};
 ghost use Rattle.mt_outside.specs.Faults.{Rose};
 ghost use Rattle.mt_session_spec.specs.Runs.{script_bytes_limit};
@@ -8,15 +8,20 @@ ghost use Rattle.mt_segment.specs.Mappers.{named};
 ghost use Rattle.mt_session_spec.specs.Settings.{Setting};
 ghost use Rattle.mt_shell.specs.Outsides.{beside, outside};
 ghost use Rattle.mt_shell.specs.Serves.{Serves, first_kept, setting_of};
-ghost use Rattle.mt_shell.specs.Words.{AreGood};
+ghost use Rattle.mt_generate_spec.specs.Demo.{demo_script};
+ghost use Rattle.mt_words.specs.Words.{texts, IsGood, AreGood};
+ghost use Rattle.mt_shell.specs.Demos.{OverScript, script_of};
 ghost use Rattle.mt_shell.specs.Ends.{EndsAs, FaultsAs, IsLong, IsTheAnswer, FinishesAs, FinishCounts};
 
 use super::edge::{Edge, Objects};
 use super::laws::ends_are_answers;
+use super::script::Script;
 use super::talk::{Flow, Talk};
+use mt_generate::demo;
 use mt_mapper::Mapper;
 use mt_outside::{Failed, Shelf, Sink, SinkError, Source};
 use mt_pattern::PatternShop;
+use mt_words::{Options, WordsError, one_reading, read_words};
 use std::alloc::Global;
 
 /// How a run ended.
@@ -42,9 +47,9 @@ pub const SCRIPT_BYTES_LIMIT: usize = 268_435_456;
 /// So many bytes are read at once.
 const BLOCK: usize = 65_536;
 
-/// Answers the script that the source gives, and writes each reply before more is read.
+/// Answers the script that the source gives, or with a demo the demo's, and writes each reply before more is read.
 ///
-/// The words are those of the command line behind the program's name.
+/// The words are those of the command line behind the program's name. They are good where they say options.
 pub fn run<M: Mapper, S: Source, K: Sink, F: Shelf, P: PatternShop>(
     alloc: Global,
     words: &[String],
@@ -55,29 +60,122 @@ pub fn run<M: Mapper, S: Source, K: Sink, F: Shelf, P: PatternShop>(
     mappers: Vec<M>,
 ) -> Status
     // What is read and written: the replies to the script, as far as it was read, over the files of the shelf. The first fault of source or sink ends the run.
+    ensures ends { (options : Options) → IsGood (texts words.now) options → OverScript options.demo (EndsAs (setting_of (named M.called M.image mappers.items)) result)
+        (outside (S.left source.old) (S.faults source.old) (K.held sink.old) (K.faults sink.old) (F.files shelf.old) (F.failed shelf.old) (P.refused shop.old))
+        (outside (S.left source.new) (S.faults source.new) (K.held sink.new) (K.faults sink.new) (F.files shelf.new) (F.failed shelf.new) (P.refused shop.new)) }
+    ensures faults { (options : Options) → IsGood (texts words.now) options → OverScript options.demo (FaultsAs result)
+        (outside (S.left source.old) (S.faults source.old) (K.held sink.old) (K.faults sink.old) (F.files shelf.old) (F.failed shelf.old) (P.refused shop.old))
+        (outside (S.left source.new) (S.faults source.new) (K.held sink.new) (K.faults sink.new) (F.files shelf.new) (F.failed shelf.new) (P.refused shop.new)) }
+    // Where the run is done, no call of the shelf failed and no reply wants memory, the bytes written are the one answer of the script.
+    ensures one { result ≡ Status.Done → (options : Options) → IsGood (texts words.now) options → OverScript options.demo (IsTheAnswer (setting_of (named M.called M.image mappers.items)))
+        (outside (S.left source.old) (S.faults source.old) (K.held sink.old) (K.faults sink.old) (F.files shelf.old) (F.failed shelf.old) (P.refused shop.old))
+        (outside (S.left source.new) (S.faults source.new) (K.held sink.new) (K.faults sink.new) (F.files shelf.new) (F.failed shelf.new) (P.refused shop.new)) }
+    // With a demo the source is not read, so it is no cause of an end.
+    ensures demo { (options : Options) → IsGood (texts words.now) options → IfSome options.demo (λ _. (source.new ≡ source.old) × (result ≢ Status.SourceFault)) }
+
+    // Each other end has its cause.
+    ensures usage { result ≡ Status.Usage → AreGood (texts words.now) → ⊥ }
+    ensures bad { (AreGood (texts words.now) → ⊥) → (result ≡ Status.Usage) ⊎ (result ≡ Status.NoMemory) }
+    ensures untouched { (AreGood (texts words.now) → ⊥) → (source.new ≡ source.old) × (sink.new ≡ sink.old) × (shelf.new ≡ shelf.old) × (shop.new ≡ shop.old) }
+    ensures is_long { result ≡ Status.ScriptTooLong → (options : Options) → IsGood (texts words.now) options →
+        Told (script_of options.demo (S.left source.old)) (λ input. script_bytes_limit < length input) }
+    // With good words, no fault and a script that is not too long the run is done, or memory was wanted.
+    ensures complete { (options : Options) → IsGood (texts words.now) options → (Rose (S.faults source.old) (S.faults source.new) → ⊥) → (Rose (K.faults sink.old) (K.faults sink.new) → ⊥) →
+        Told (script_of options.demo (S.left source.old)) (λ input. length input ≤ script_bytes_limit → (result ≡ Status.Done) ⊎ (result ≡ Status.NoMemory)) }
+{
+    one_reading();
+    match read_words(alloc, words) {
+        Ok(options) => answer_by(alloc, options, source, sink, shelf, shop, mappers),
+        Err(WordsError::Usage) => Status::Usage,
+        Err(WordsError::NoMemory) => Status::NoMemory,
+    }
+}
+
+/// Answers the script that the options say.
+fn answer_by<M: Mapper, S: Source, K: Sink, F: Shelf, P: PatternShop>(
+    alloc: Global,
+    options: Options,
+    source: &mut S,
+    sink: &mut K,
+    shelf: &mut F,
+    shop: &mut P,
+    mappers: Vec<M>,
+) -> Status
+    ensures ends { OverScript options.demo (EndsAs (setting_of (named M.called M.image mappers.items)) result)
+        (outside (S.left source.old) (S.faults source.old) (K.held sink.old) (K.faults sink.old) (F.files shelf.old) (F.failed shelf.old) (P.refused shop.old))
+        (outside (S.left source.new) (S.faults source.new) (K.held sink.new) (K.faults sink.new) (F.files shelf.new) (F.failed shelf.new) (P.refused shop.new)) }
+    ensures faults { OverScript options.demo (FaultsAs result)
+        (outside (S.left source.old) (S.faults source.old) (K.held sink.old) (K.faults sink.old) (F.files shelf.old) (F.failed shelf.old) (P.refused shop.old))
+        (outside (S.left source.new) (S.faults source.new) (K.held sink.new) (K.faults sink.new) (F.files shelf.new) (F.failed shelf.new) (P.refused shop.new)) }
+    ensures one { result ≡ Status.Done → OverScript options.demo (IsTheAnswer (setting_of (named M.called M.image mappers.items)))
+        (outside (S.left source.old) (S.faults source.old) (K.held sink.old) (K.faults sink.old) (F.files shelf.old) (F.failed shelf.old) (P.refused shop.old))
+        (outside (S.left source.new) (S.faults source.new) (K.held sink.new) (K.faults sink.new) (F.files shelf.new) (F.failed shelf.new) (P.refused shop.new)) }
+    ensures demo { IfSome options.demo (λ _. (source.new ≡ source.old) × (result ≢ Status.SourceFault)) }
+    ensures is_long { result ≡ Status.ScriptTooLong → Told (script_of options.demo (S.left source.old)) (λ input. script_bytes_limit < length input) }
+    ensures complete { (Rose (S.faults source.old) (S.faults source.new) → ⊥) → (Rose (K.faults sink.old) (K.faults sink.new) → ⊥) →
+        Told (script_of options.demo (S.left source.old)) (λ input. length input ≤ script_bytes_limit → (result ≡ Status.Done) ⊎ (result ≡ Status.NoMemory)) }
+    ensures good { result ≢ Status.Usage }
+{
+    match options.demo {
+        None => answer_script(alloc, source, sink, shelf, shop, mappers),
+        Some(number) => answer_demo(alloc, number, sink, shelf, shop, mappers),
+    }
+}
+
+/// Answers the script of the demo over so many texts.
+fn answer_demo<M: Mapper, K: Sink, F: Shelf, P: PatternShop>(
+    alloc: Global,
+    number: u32,
+    sink: &mut K,
+    shelf: &mut F,
+    shop: &mut P,
+    mappers: Vec<M>,
+) -> Status
+    ensures ends { OverScript (Some number) (EndsAs (setting_of (named M.called M.image mappers.items)) result)
+        (outside None 0 (K.held sink.old) (K.faults sink.old) (F.files shelf.old) (F.failed shelf.old) (P.refused shop.old))
+        (outside None 0 (K.held sink.new) (K.faults sink.new) (F.files shelf.new) (F.failed shelf.new) (P.refused shop.new)) }
+    ensures faults { OverScript (Some number) (FaultsAs result)
+        (outside None 0 (K.held sink.old) (K.faults sink.old) (F.files shelf.old) (F.failed shelf.old) (P.refused shop.old))
+        (outside None 0 (K.held sink.new) (K.faults sink.new) (F.files shelf.new) (F.failed shelf.new) (P.refused shop.new)) }
+    ensures one { result ≡ Status.Done → OverScript (Some number) (IsTheAnswer (setting_of (named M.called M.image mappers.items)))
+        (outside None 0 (K.held sink.old) (K.faults sink.old) (F.files shelf.old) (F.failed shelf.old) (P.refused shop.old))
+        (outside None 0 (K.held sink.new) (K.faults sink.new) (F.files shelf.new) (F.failed shelf.new) (P.refused shop.new)) }
+    ensures is_long { result ≡ Status.ScriptTooLong → script_bytes_limit < length (demo_script number) }
+    ensures complete { (Rose (K.faults sink.old) (K.faults sink.new) → ⊥) → length (demo_script number) ≤ script_bytes_limit →
+        (result ≡ Status.Done) ⊎ (result ≡ Status.NoMemory) }
+    ensures good { (result ≢ Status.Usage) × (result ≢ Status.SourceFault) }
+{
+    let Ok(bytes) = demo(alloc, number) else {
+        return Status::NoMemory;
+    };
+    let mut script = Script::new(bytes);
+    answer_script(alloc, &mut script, sink, shelf, shop, mappers)
+}
+
+/// Answers the script that a source gives.
+fn answer_script<M: Mapper, S: Source, K: Sink, F: Shelf, P: PatternShop>(
+    alloc: Global,
+    source: &mut S,
+    sink: &mut K,
+    shelf: &mut F,
+    shop: &mut P,
+    mappers: Vec<M>,
+) -> Status
     ensures ends { EndsAs (setting_of (named M.called M.image mappers.items)) result
         (outside (S.left source.old) (S.faults source.old) (K.held sink.old) (K.faults sink.old) (F.files shelf.old) (F.failed shelf.old) (P.refused shop.old))
         (outside (S.left source.new) (S.faults source.new) (K.held sink.new) (K.faults sink.new) (F.files shelf.new) (F.failed shelf.new) (P.refused shop.new)) }
     ensures faults { FaultsAs result
         (outside (S.left source.old) (S.faults source.old) (K.held sink.old) (K.faults sink.old) (F.files shelf.old) (F.failed shelf.old) (P.refused shop.old))
         (outside (S.left source.new) (S.faults source.new) (K.held sink.new) (K.faults sink.new) (F.files shelf.new) (F.failed shelf.new) (P.refused shop.new)) }
-    // Where the run is done, no call of the shelf failed and no reply wants memory, the bytes written are the one answer of the script.
     ensures one { result ≡ Status.Done → IsTheAnswer (setting_of (named M.called M.image mappers.items))
         (outside (S.left source.old) (S.faults source.old) (K.held sink.old) (K.faults sink.old) (F.files shelf.old) (F.failed shelf.old) (P.refused shop.old))
         (outside (S.left source.new) (S.faults source.new) (K.held sink.new) (K.faults sink.new) (F.files shelf.new) (F.failed shelf.new) (P.refused shop.new)) }
-
-    // Each other end has its cause.
-    ensures usage { (result ≡ Status.Usage) ↔ (AreGood words.now → ⊥) }
-    ensures untouched { result ≡ Status.Usage → (source.new ≡ source.old) × (sink.new ≡ sink.old) × (shelf.new ≡ shelf.old) × (shop.new ≡ shop.old) }
     ensures is_long { result ≡ Status.ScriptTooLong → IsLong
         (outside (S.left source.old) (S.faults source.old) (K.held sink.old) (K.faults sink.old) (F.files shelf.old) (F.failed shelf.old) (P.refused shop.old)) }
-    // With good words, no fault and a script that is not too long the run is done, or memory was wanted.
-    ensures complete { AreGood words.now → (Rose (S.faults source.old) (S.faults source.new) → ⊥) → (Rose (K.faults sink.old) (K.faults sink.new) → ⊥) →
+    ensures complete { (Rose (S.faults source.old) (S.faults source.new) → ⊥) → (Rose (K.faults sink.old) (K.faults sink.new) → ⊥) →
         Told (S.left source.old) (λ input. length input ≤ script_bytes_limit → (result ≡ Status.Done) ⊎ (result ≡ Status.NoMemory)) }
+    ensures good { result ≢ Status.Usage }
 {
-    if !are_good(words) {
-        return Status::Usage;
-    }
     let Ok(mut block) = vec![in alloc; 0; BLOCK] else {
         return Status::NoMemory;
     };
@@ -86,13 +184,6 @@ pub fn run<M: Mapper, S: Source, K: Sink, F: Shelf, P: PatternShop>(
     };
     ends_are_answers();
     converse_over(&mut talk, &mut block, source, sink, shelf, shop)
-}
-
-/// Whether the words of the command line are good.
-fn are_good(words: &[String]) -> bool
-    ensures { IsTrue result ↔ AreGood words.now }
-{
-    words.is_empty()
 }
 
 /// Reads the script from the source and answers it to the sink, over the files of the shelf.

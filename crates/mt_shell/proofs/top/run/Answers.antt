@@ -1,49 +1,10 @@
-use Rattle.std.proofs.Common.{rules}
 use Rattle.mt_segment.specs.Mappers.{named}
+use Rattle.mt_shell.specs.Outsides.{outside}
 use Rattle.mt_shell.specs.Serves.{setting_of}
-use Rattle.mt_shell.proofs.Endings.{nothing_read, complete_by}
-use Rattle.mt_shell.proofs.Starting.{serves_first, one_answer}
+use Rattle.mt_shell.proofs.Demos.{starved_ends}
 use Rattle.mt_shell.proofs.top.run.Goals as goal
 
-pub returns-in_default-clause-ends : goal.returns-in_default-clause-ends
-returns-in_default-clause-ends g c = λ input h written k. nothing_read input written _ h k
-
-pub returns-in_default-new-clause-ends : goal.returns-in_default-new-clause-ends
-returns-in_default-new-clause-ends g c = λ input h written k. nothing_read input written _ h k
-
-pub returns-clause-one : goal.returns-clause-one
-returns-clause-one g c = λ done.
-    one_answer c.in-Ok-new.ensures.mappers (λ mappers. setting_of (named g.M.Mapper.called g.M.Mapper.image mappers.items)) c.ends_are_answers.ensures c.converse_over.result done _ _ c.converse_over.ensures.ends
-
-pub returns-clause-complete : goal.returns-clause-complete
-returns-clause-complete g c = λ good source sink input h short. complete_by c.converse_over.result input _ _ c.converse_over.ensures.good c.converse_over.ensures.faults c.converse_over.ensures.is_long h source sink short
-
-pub converse_over-requires-send-M : goal.converse_over-requires-send-M
-converse_over-requires-send-M g c = λ κs h. (
-  h.0,
-  (
-    h.1.0,
-    (
-      h.1.1.0,
-      (
-        h.1.1.1.0,
-        (
-          h.1.1.1.1.0,
-          (
-            h.1.1.1.1.1,
-            (
-              c.type_bounds.send-M,
-              (
-                c.in-Ok-new.ensures.reader,
-                (
-                  c.in-Ok-new.ensures.state,
-                  (serves_first (named g.M.Mapper.called g.M.Mapper.image c.in-Ok-new.talk.session.mappers.items) c.in-Ok-new.talk.session.state c.in-Ok-new.ensures.state, search (rules, c.in-Ok.ensures.len, c.in-Ok.ensures.items, c.deref_mut.ensures)),
-                ),
-              ),
-            ),
-          ),
-        ),
-      ),
-    ),
-  ),
-)
+pub returns-clause-ends : goal.returns-clause-ends
+returns-clause-ends g c = λ options good.
+    starved_ends (setting_of (named g.M.Mapper.called g.M.Mapper.image c.args.mappers.items)) options.demo
+    (outside (g.S.Source.left c.args.source.now) (g.S.Source.faults c.args.source.now) (g.K.Sink.held c.args.sink.now) (g.K.Sink.faults c.args.sink.now) (g.F.Shelf.files c.args.shelf.now) (g.F.Shelf.failed c.args.shelf.now) (g.P.PatternShop.refused c.args.shop.now))
