@@ -1,12 +1,14 @@
 //! The program: answers the script on its standard input.
 #![tactic(auto)]
 
-ghost use Rattle.std.specs.Prelude.{◌≡◌, ◌↔◌, IfOk};
+ghost use Rattle.std.specs.Prelude.{◌≡◌, ◌≢◌, ◌⊎◌, IfOk, IfSome};
 ghost use Rattle.mt_segment.specs.Mappers.{named};
 ghost use Rattle.mt_shell.specs.Ends.{EndsAs, FaultsAs};
 ghost use Rattle.mt_shell.specs.Outsides.{outside};
 ghost use Rattle.mt_shell.specs.Serves.{setting_of};
-ghost use Rattle.mt_shell.specs.Words.{AreGood};
+ghost use Rattle.mt_words.specs.Words.{texts, IsGood, AreGood};
+ghost use Rattle.mt_words.specs.declared.Options.{Options};
+ghost use Rattle.mt_shell.specs.Demos.{OverScript};
 ghost use Rattle.mt_prog.specs.Exits.{exit_of};
 
 mod standard;
@@ -16,21 +18,23 @@ use mt_mapper::{Fold, Mapper, Prefix, Suffix};
 use mt_outside::{Shelf, Sink, Source};
 use mt_pattern::{PatternShop, RegexShop};
 use mt_shell::{Status, run};
+use mt_words::{WordsError, read_words};
 use standard::{FolderShelf, StdinSource, StdoutSink};
 use std::alloc::Global;
 use std::process::ExitCode;
 use std::{env, io};
 
-const USAGE: &str = "usage: corpus_shell";
+const USAGE: &str = "usage: corpus_shell [--workers N] [--demo N]";
 
 fn main(rt: HostRuntime) -> ExitCode {
     let mut source = StdinSource::new(rt.stdin());
     let mut sink = StdoutSink::new(rt.stdout());
     let mut shelf = FolderShelf::new(&rt);
     let status = match words(&rt) {
-        Ok(words) => serve(rt.alloc(), &words, &mut source, &mut sink, &mut shelf).unwrap_or(
-            starved(&words),
-        ),
+        Ok(words) => match serve(rt.alloc(), &words, &mut source, &mut sink, &mut shelf) {
+            Ok(status) => status,
+            Err(NoMemory) => starved(rt.alloc(), &words),
+        },
         Err(error) => status_of(&error),
     };
     if status == Status::Usage {
@@ -58,7 +62,8 @@ fn serve<S: Source, K: Sink, F: Shelf>(
     sink: &mut K,
     shelf: &mut F,
 ) -> Result<Status, NoMemory>
-    ensures usage { IfOk result (λ status. (status ≡ Status.Usage) ↔ (AreGood words.now → ⊥)) }
+    ensures usage { IfOk result (λ status. status ≡ Status.Usage → AreGood (texts words.now) → ⊥) }
+    ensures bad { IfOk result (λ status. (AreGood (texts words.now) → ⊥) → (status ≡ Status.Usage) ⊎ (status ≡ Status.NoMemory)) }
 {
     let mut mappers: Vec<Box<dyn Mapper>> = Vec::new(alloc);
     mappers.push(Box::new(alloc, Fold::new(alloc)?)?)?;
@@ -71,18 +76,17 @@ fn serve<S: Source, K: Sink, F: Shelf>(
 }
 
 /// How a run ends that finds no memory for the mappers.
-fn starved(words: &[String]) -> Status
-    ensures starved { AreGood words.now → result ≡ Status.NoMemory }
-    ensures usage { (result ≡ Status.Usage) ↔ (AreGood words.now → ⊥) }
+fn starved(alloc: Global, words: &[String]) -> Status
+    ensures good { AreGood (texts words.now) → result ≡ Status.NoMemory }
+    ensures bad { (result ≡ Status.Usage) ⊎ (result ≡ Status.NoMemory) }
 {
-    if words.is_empty() {
-        Status::NoMemory
-    } else {
-        Status::Usage
+    match read_words(alloc, words) {
+        Err(WordsError::Usage) => Status::Usage,
+        _ => Status::NoMemory,
     }
 }
 
-/// Answers the script that the source gives, for these words of the command line, where this shop makes the patterns and these mappers are at hand.
+/// Answers the script that the source gives, or a demo's, as these words of the command line say, where this shop makes the patterns and these mappers are at hand.
 fn answer<M: Mapper, S: Source, K: Sink, F: Shelf, P: PatternShop>(
     alloc: Global,
     words: &[String],
@@ -92,13 +96,15 @@ fn answer<M: Mapper, S: Source, K: Sink, F: Shelf, P: PatternShop>(
     shop: &mut P,
     mappers: Vec<M>,
 ) -> Status
-    ensures ends { EndsAs (setting_of (named M.called M.image mappers.items)) result
+    ensures ends { (options : Options) → IsGood (texts words.now) options → OverScript options.demo (EndsAs (setting_of (named M.called M.image mappers.items)) result)
         (outside (S.left source.old) (S.faults source.old) (K.held sink.old) (K.faults sink.old) (F.files shelf.old) (F.failed shelf.old) (P.refused shop.old))
         (outside (S.left source.new) (S.faults source.new) (K.held sink.new) (K.faults sink.new) (F.files shelf.new) (F.failed shelf.new) (P.refused shop.new)) }
-    ensures faults { FaultsAs result
+    ensures faults { (options : Options) → IsGood (texts words.now) options → OverScript options.demo (FaultsAs result)
         (outside (S.left source.old) (S.faults source.old) (K.held sink.old) (K.faults sink.old) (F.files shelf.old) (F.failed shelf.old) (P.refused shop.old))
         (outside (S.left source.new) (S.faults source.new) (K.held sink.new) (K.faults sink.new) (F.files shelf.new) (F.failed shelf.new) (P.refused shop.new)) }
-    ensures usage { (result ≡ Status.Usage) ↔ (AreGood words.now → ⊥) }
+    ensures demo { (options : Options) → IsGood (texts words.now) options → IfSome options.demo (λ _. (source.new ≡ source.old) × (result ≢ Status.SourceFault)) }
+    ensures usage { result ≡ Status.Usage → AreGood (texts words.now) → ⊥ }
+    ensures bad { (AreGood (texts words.now) → ⊥) → (result ≡ Status.Usage) ⊎ (result ≡ Status.NoMemory) }
 {
     run(alloc, words, source, sink, shelf, shop, mappers)
 }
