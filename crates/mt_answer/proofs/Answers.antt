@@ -125,7 +125,7 @@ lists corpus cql rows bytes old has concordance = record {
 
 -- ## Either of two
 
--- of a result, a reply is its value's lines, or tells that memory was wanted
+-- of a result, a reply is its value's lines, or tells that memory ran out
 told : {E : Type 0} (corpus : Corpus) (asked : Ask) (old : List (List ℕ)) (made : Result (List ℕ) E) (reply : Reply) → IfOk made (λ bytes. AnswersAsk corpus asked old old (Lines bytes)) →
     AnswersAsk corpus asked old old NoMemory → IfOk made (λ bytes. reply ≡ Lines bytes) → OnErr made (reply ≡ NoMemory) → AnswersAsk corpus asked old old reply
 told corpus asked old (Ok bytes) reply answers starves is none = rw is answers

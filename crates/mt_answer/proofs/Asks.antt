@@ -29,7 +29,7 @@ declined asked gained refusal reply f g = record { answer = g.answer; says = g.s
     by answer (inl e) = rw e (AskDeclined refusal f)
     by answer (inr e) = rw e AskStarved
 
--- memory was wanted
+-- memory ran out
 pub starved : (asked : Question) (gained : Gained) → Asked asked gained NoMemory
 starved asked gained = record { answer = Refused no_memory_line; says = SaysNoMemory; holds = AskStarved }
 

@@ -20,7 +20,7 @@ declined_line (Refused refusal) = refusal_line (refusal_of refusal)
 declined_line (PatternRefused number) = pattern_refused_line number
 declined_line NoMemory = no_memory_line
 
--- The text is no query under the registry, for the cause that is told, or memory was wanted.
+-- The text is no query under the registry, for the cause that is told, or memory ran out.
 abbrev pub IsUnread : Registry → List ℕ → Declined → Type 0
 IsUnread registry cql (Refused refusal) = (scene : Scene) → scene.registry ≡ registry → IsNoQuery scene cql (refusal_of refusal)
 IsUnread registry cql (PatternRefused number) = ⊥

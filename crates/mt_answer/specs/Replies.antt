@@ -28,7 +28,7 @@ pub record SaysOf (P : answers.Answer → Type 0) (reply : Reply) : Type 0 where
   pub says : Says reply answer
   pub holds : P answer
 
--- it is this answer, or tells that memory was wanted
+-- it is this answer, or tells that memory ran out
 abbrev pub Given : answers.Answer → Reply → Type 0
 Given expected reply = SaysOf (λ answer. (answer ≡ expected) ⊎ (answer ≡ answers.Refused no_memory_line)) reply
 

@@ -19,7 +19,7 @@ pub const BAD_COMMAND: &str = "! 10 BadCommand\n";
 /// The reply to a body that the input cuts short.
 pub const CUT_SHORT: &str = "! 11 CutShort\n";
 
-/// The reply to a command that wants memory.
+/// The reply to a command that runs out of memory.
 pub const NO_MEMORY: &str = "! 30 NoMemory\n";
 
 /// Why a command is refused.

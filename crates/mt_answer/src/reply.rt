@@ -21,7 +21,7 @@ pub enum Reply {
     Lines(List<u8>),
     /// It is accepted, in this line, and the run ends with it.
     Last(List<u8>),
-    /// The command is refused as a whole, since memory was wanted.
+    /// The command is refused as a whole, since memory ran out.
     NoMemory,
 }
 

@@ -29,26 +29,26 @@ fn main(rt: HostRuntime) -> io::Result<()> {
     if let Some(taken) = taken(rt.alloc(), asked.as_str()) {
         return match taken {
             Ok(answer) => println!(rt; "{answer}"),
-            Err(NoMemory) => println!(rt; "memory was wanted"),
+            Err(NoMemory) => println!(rt; "out of memory"),
         };
     }
     println!(rt; "workload / plain loop: the best times in nanoseconds, and their ratio")?;
     match work::Input::new(rt.alloc()) {
         Ok(input) => measure(&rt, &input)?,
-        Err(NoMemory) => println!(rt; "memory was wanted")?,
+        Err(NoMemory) => println!(rt; "out of memory")?,
     }
     match lexicons::Input::new(rt.alloc()) {
         Ok(input) => measure_lexicons(&rt, &input)?,
-        Err(NoMemory) => println!(rt; "memory was wanted")?,
+        Err(NoMemory) => println!(rt; "out of memory")?,
     }
     measure_segments(&rt)?;
     match patterns::Input::new(rt.alloc()) {
         Ok(input) => measure_patterns(&rt, &input)?,
-        Err(NoMemory) => println!(rt; "memory was wanted")?,
+        Err(NoMemory) => println!(rt; "out of memory")?,
     }
     match queries::Input::new(rt.alloc()) {
         Ok(input) => measure_queries(&rt, &input)?,
-        Err(NoMemory) => println!(rt; "memory was wanted")?,
+        Err(NoMemory) => println!(rt; "out of memory")?,
     }
     measure_scripts(&rt)
 }
@@ -145,11 +145,11 @@ fn measure_segments(rt: &HostRuntime) -> io::Result<()> {
     let alloc = rt.alloc();
     match segments::Input::new(alloc) {
         Ok(input) => measure_segment(rt, "build a segment / read its text", &input)?,
-        Err(NoMemory) => println!(rt; "memory was wanted")?,
+        Err(NoMemory) => println!(rt; "out of memory")?,
     }
     match segments::Input::wide(alloc) {
         Ok(input) => measure_segment(rt, "build a wide segment / read its text", &input)?,
-        Err(NoMemory) => println!(rt; "memory was wanted")?,
+        Err(NoMemory) => println!(rt; "out of memory")?,
     }
     match segments::Input::short(alloc) {
         Ok(input) => compare(
@@ -158,7 +158,7 @@ fn measure_segments(rt: &HostRuntime) -> io::Result<()> {
             || segments::build_many(alloc, &input),
             || segments::read(alloc, &input),
         ),
-        Err(NoMemory) => println!(rt; "memory was wanted"),
+        Err(NoMemory) => println!(rt; "out of memory"),
     }
 }
 

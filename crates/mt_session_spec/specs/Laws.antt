@@ -84,7 +84,7 @@ abbrev pub OneAnswers : Type 0
 OneAnswers = (setting : Setting) (items : List Item) (world : World) → ValidHeld world.held → All IsSaidItem items →
     (answers others : List Answer) (last other : World) → AreAnswers setting items world answers last → AreAnswers setting items world others other → (answers ≡ others) × (last ≡ other)
 
--- Over files that are known, replies of which none tells that memory was wanted, and in which no call failed, are the one answer, where no pattern that is asked for
+-- Over files that are known, replies of which none tells that memory ran out, and in which no call failed, are the one answer, where no pattern that is asked for
 -- nests too deep.
 abbrev pub RepliesAreAnswers : Type 0
 RepliesAreAnswers = (setting : Setting) (items : List Item) (files : Files) (answers : List Answer) (last : Known) → All IsSaidItem items →

@@ -16,7 +16,7 @@ pub record Meaning : Type 1 where
   pub Accepts : World → Answer → Type 0
   pub Excepts : Gained → World → Answer → Type 0
 
--- What may come in place of what a command means that loads files and stores none: memory is wanted, or a call of the shelf failed in this command at a file that it
+-- What may come in place of what a command means that loads files and stores none: memory runs out, or a call of the shelf failed in this command at a file that it
 -- loads. Nothing changes.
 pub data Exception (world : World) (Loads : List ℕ → Type 0) (gained : Gained) : World → Answer → Type 0 where
   Starved : Exception world Loads gained world (Refused no_memory_line)
@@ -38,7 +38,7 @@ unbuilt world = record { checks = When (Unit {0}) BadCommand ∷ []; Accepts = �
 -- ## Questions
 
 -- For a question, where this is held: its checks in the one order; its lines where all of them pass; and the line that may come in place of all that where the objects
--- outside gained this, want of memory apart. A question changes nothing.
+-- outside gained this, running out of memory apart. A question changes nothing.
 pub record Question : Type 1 where
   pub checks : List Check
   pub Answers : List (List ℕ) → Type 0

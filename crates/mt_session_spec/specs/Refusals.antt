@@ -59,7 +59,7 @@ pattern_refused_line k = codes "! 21 PatternRefused " ++ decimal k
 abbrev pub failure_line : List ℕ → List ℕ
 failure_line file = codes "! 29 ShelfFailed " ++ file
 
--- the line that tells that memory was wanted
+-- the line that tells that memory ran out
 abbrev pub no_memory_line : List ℕ
 no_memory_line = codes "! 30 NoMemory"
 

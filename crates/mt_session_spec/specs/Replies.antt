@@ -83,7 +83,7 @@ pub data AreAnswers (setting : Setting) : List Item → World → List Answer �
 abbrev pub NoQuit : List Item → Type 0
 NoQuit items = All (λ item. item ≢ Given Quit) items
 
--- no answer tells that memory was wanted
+-- no answer tells that memory ran out
 abbrev pub NoneStarved : List Answer → Type 0
 NoneStarved answers = All (λ answer. answer ≢ Refused no_memory_line) answers
 

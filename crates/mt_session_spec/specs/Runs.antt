@@ -143,7 +143,7 @@ pub record EndsTooLong (setting : Setting) (input : List ℕ) (start : Outside) 
   pub full : length taken ≡ script_bytes_limit
   pub answered : Answered setting false taken start written end
 
--- a fault of the sink or want of memory: the first items of what was taken are answered, the last of them in part, and nothing was read behind a `quit`
+-- a fault of the sink, or memory that ran out: the first items of what was taken are answered, the last of them in part, and nothing was read behind a `quit`
 pub record EndsInPart (setting : Setting) (input : List ℕ) (start : Outside) (written : List ℕ) (end : Outside) : Type 0 where
   pub ended : Bool
   pub taken : List ℕ
@@ -160,7 +160,7 @@ pub record AreTheAnswers (setting : Setting) (items : List Item) (files : Files)
   pub one : (others : List Answer) (other : World) → AreAnswers setting items (record { held = first_held; files = files }) others other → others ≡ answers
 
 -- What was taken are these items and a rest that is none, or they end with the first `quit`. What was written are answers to them. Where none of these tells that
--- memory was wanted, and no pattern that is asked for nests too deep, they are the one answer of the script.
+-- memory ran out, and no pattern that is asked for nests too deep, they are the one answer of the script.
 pub record AnswersScript (setting : Setting) (input written : List ℕ) (files : Files) (end : Outside) : Type 0 where
   pub ended : Bool
   pub taken : List ℕ

@@ -468,7 +468,7 @@ nothing_read input written start l k = record {
 
 -- ## The causes
 
--- with no fault and a script that is not too long the run is done, or memory was wanted
+-- with no fault and a script that is not too long the run is done, or memory ran out
 pub complete_by : (status : Status) (input : List ℕ) (start end : Outside) → status ≢ Usage → FaultsAs status start end → (status ≡ ScriptTooLong → IsLong start) → start.left ≡ Some input →
     (Rose start.source_faults end.source_faults → ⊥) → (Rose start.sink_faults end.sink_faults → ⊥) → length input ≤ script_bytes_limit → (status ≡ Done) ⊎ (status ≡ NoMemory)
 complete_by Done input start end good f long l source sink short = inl refl

@@ -44,11 +44,11 @@ none_both (check ∷ front) own none n = (none.0, none_both front own none.1 n)
 abbrev pub StepsBy : Meaning → World → Gained → Reply → World → Type 0
 StepsBy meant world gained reply new = SaysOf (λ answer. StepBy meant world gained new answer) reply
 
--- memory was wanted
+-- memory ran out
 pub starved : (meant : Meaning) (world : World) (gained : Gained) → meant.Excepts gained world (answers.Refused no_memory_line) → StepsBy meant world gained NoMemory world
 starved meant world gained e = record { answer = answers.Refused no_memory_line; says = SaysNoMemory; holds = Excepted world (answers.Refused no_memory_line) e }
 
--- it is this answer, which is meant, or memory was wanted
+-- it is this answer, which is meant, or memory ran out
 pub given : (meant : Meaning) (world : World) (gained : Gained) (expected : answers.Answer) (reply : Reply) → StepBy meant world gained world expected → meant.Excepts gained world (answers.Refused no_memory_line) →
     Given expected reply → StepsBy meant world gained reply world
 given meant world gained expected reply s e g = record { answer = g.answer; says = g.says; holds = by g.answer g.holds }

@@ -231,7 +231,7 @@ none_in_part a b old mid start written at end p told =
       };
     }
 
--- nothing was read for want of memory
+-- nothing was read, since memory ran out
 pub nothing_done : {setting : Setting} → {ended : Bool} → (bytes : List ℕ) (held : Held) (start : Outside) (written : List ℕ) → start.written ≡ Some written → ProgressInPart setting ended bytes held start written start
 nothing_done bytes held start written e = record {
   items = [];
@@ -247,7 +247,7 @@ nothing_done bytes held start written e = record {
   leaves = nothing_yet start written e;
 }
 
--- an error at the item that comes next, or where none came for want of memory
+-- an error at the item that comes next, or where none came since memory ran out
 pub part_at : {setting : Setting} → {ended : Bool} → (next : Option Item) (a b c : List ℕ) (old mid : Held) (start : Outside) (written : List ℕ) (at end : Outside) → Progress setting ended a b old mid start written at →
     ((item : Item) → next ≡ Some item → Begins ended b (item ∷ []) c) →
     Told at.written (λ here. MatchOption next (Leaves at here [] at.files none_gained end) (λ item. RepliedInPart setting mid item at here end)) → ProgressInPart setting ended a old start written end

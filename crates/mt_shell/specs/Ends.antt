@@ -42,7 +42,7 @@ pub record NoneFailed (start end : Outside) : Type 0 where
   pub failed : end.failed ≡ start.failed
   pub refused : end.refused ≡ start.refused
 
--- What was written are answers to the script, and its one answer where none of them tells that memory was wanted and no pattern that is asked for nests too deep.
+-- What was written are answers to the script, and its one answer where none of them tells that memory ran out and no pattern that is asked for nests too deep.
 abbrev pub IsTheAnswer : Setting → Outside → Outside → Type 0
 IsTheAnswer setting start end = Told start.left (λ input. Told start.written (λ written. Told start.files (λ files. NoneFailed start end → AnswersScript setting input written files end)))
 

@@ -81,7 +81,7 @@ pub record WroteFront (piece before : List ℕ) (after : Option (List ℕ)) : Ty
   pub are : piece ≡ front ++ unwritten
   pub written : after ≡ Some (before ++ front)
 
--- The item that comes next, or none where no whole item is left or memory was wanted.
+-- The item that comes next, or none where no whole item is left or memory ran out.
 abbrev pub item_of : Next → Option Item
 item_of (NextCommand command) = Some (Given (command_of command))
 item_of NextBad = Some Bad

@@ -66,7 +66,7 @@ pub fn run<M: Mapper, S: Source, K: Sink, F: Shelf, P: PatternShop>(
     ensures faults { (options : Options) → IsGood (texts words.now) options → OverScript options.demo (FaultsAs result)
         (outside (S.left source.old) (S.faults source.old) (K.held sink.old) (K.faults sink.old) (F.files shelf.old) (F.failed shelf.old) (P.refused shop.old))
         (outside (S.left source.new) (S.faults source.new) (K.held sink.new) (K.faults sink.new) (F.files shelf.new) (F.failed shelf.new) (P.refused shop.new)) }
-    // Where the run is done, no call of the shelf failed and no reply wants memory, the bytes written are the one answer of the script.
+    // Where the run is done, no call of the shelf failed and no reply is out of memory, the bytes written are the one answer of the script.
     ensures one { result ≡ Status.Done → (options : Options) → IsGood (texts words.now) options → OverScript options.demo (IsTheAnswer (setting_of (named M.called M.image mappers.items)))
         (outside (S.left source.old) (S.faults source.old) (K.held sink.old) (K.faults sink.old) (F.files shelf.old) (F.failed shelf.old) (P.refused shop.old))
         (outside (S.left source.new) (S.faults source.new) (K.held sink.new) (K.faults sink.new) (F.files shelf.new) (F.failed shelf.new) (P.refused shop.new)) }
@@ -79,7 +79,7 @@ pub fn run<M: Mapper, S: Source, K: Sink, F: Shelf, P: PatternShop>(
     ensures untouched { (AreGood (texts words.now) → ⊥) → (source.new ≡ source.old) × (sink.new ≡ sink.old) × (shelf.new ≡ shelf.old) × (shop.new ≡ shop.old) }
     ensures is_long { result ≡ Status.ScriptTooLong → (options : Options) → IsGood (texts words.now) options →
         Told (script_of options.demo (S.left source.old)) (λ input. script_bytes_limit < length input) }
-    // With good words, no fault and a script that is not too long the run is done, or memory was wanted.
+    // With good words, no fault and a script that is not too long the run is done, or memory ran out.
     ensures complete { (options : Options) → IsGood (texts words.now) options → (Rose (S.faults source.old) (S.faults source.new) → ⊥) → (Rose (K.faults sink.old) (K.faults sink.new) → ⊥) →
         Told (script_of options.demo (S.left source.old)) (λ input. length input ≤ script_bytes_limit → (result ≡ Status.Done) ⊎ (result ≡ Status.NoMemory)) }
 {

@@ -20,11 +20,11 @@ fn main(rt: HostRuntime) -> io::Result<()> {
     let mut table = Table::new(rt.alloc());
     for line in BufReader::new(rt.alloc(), rt.stdin())?.lines(rt.alloc()) {
         if table.take_line(rt.alloc(), line?.as_str()).is_err() {
-            return println!(rt; "memory was wanted");
+            return println!(rt; "out of memory");
         }
     }
     match show::answers(rt.alloc(), &table) {
         Ok(text) => print!(rt; "{text}"),
-        Err(NoMemory) => println!(rt; "memory was wanted"),
+        Err(NoMemory) => println!(rt; "out of memory"),
     }
 }
