@@ -5,6 +5,7 @@ ghost use Rattle.mt_text_spec.specs.Registries as registries;
 ghost use Rattle.mt_text_spec.specs.Registries.{ValidRegistry};
 ghost use Rattle.mt_query_spec.specs.Verdicts.{Means};
 ghost use Rattle.mt_query_spec.specs.Valid.{ValidQuery};
+ghost use Rattle.mt_eval_spec.specs.Fits.{Fits};
 ghost use Rattle.mt_cql.specs.Answered.{Answered};
 ghost use Rattle.mt_answer.specs.Declines.{IsUnread};
 
@@ -25,6 +26,7 @@ pub fn read_query<'a>(
     requires { ValidRegistry registry.now }
     ensures read { IfOk result (λ query. Means registry.now 0 cql.now (Ok query)) }
     ensures valid { IfOk result (λ query. ValidQuery registry.now query) }
+    ensures fits { IfOk result (λ query. Fits registry.now query) }
     ensures unread { IfErr result (IsUnread registry.now cql.now) }
 {
     match parse(alloc, cql, registry, 0) {

@@ -2,11 +2,11 @@
 
 ghost use Rattle.std.specs.Prelude.{◌≡◌, ◌<◌, ℕ, List as Items, Ok, IfOk, IfErr, OnOk, IsErrOf};
 ghost use Rattle.std.specs.List.{All};
-ghost use Rattle.mt_query_spec.specs.Valid.{ValidQuery};
 ghost use Rattle.mt_query_spec.specs.Verdicts.{Means};
 ghost use Rattle.mt_match_spec.specs.Kept.{Kept, Over};
 ghost use Rattle.mt_match_spec.specs.Values.{Images};
 ghost use Rattle.mt_eval_spec.specs.Asked.{query_patterns};
+ghost use Rattle.mt_eval_spec.specs.Fits.{Fits};
 ghost use Rattle.mt_prepare.specs.Built.{IsWhole};
 ghost use Rattle.mt_corpus_spec.specs.Groups.{corpus_of};
 ghost use Rattle.mt_corpus_spec.specs.Images.{AreImagesBy};
@@ -52,7 +52,7 @@ fn found<P: PatternShop>(
     query: &Query,
     shop: &mut P,
 ) -> Result<RowList, Declined<'static>>
-    requires { ValidQuery corpus.now.registry query.now }
+    requires { Fits corpus.now.registry query.now }
     ensures rows { (cql : Items ℕ) → Means corpus.now.registry 0 cql (Ok query.now) → IfOk result (HasRows corpus.now cql) }
     ensures declined { (cql : Items ℕ) → Means corpus.now.registry 0 cql (Ok query.now) → IfErr result (DeclinesQuery corpus.now cql (P.refused shop.old) (P.refused shop.new)) }
     ensures shop { OnOk result (P.refused shop.new ≡ P.refused shop.old) }
@@ -72,7 +72,7 @@ fn rows_by<P: PatternShop, L: Ledger>(
     shop: &mut P,
     blank: Blank,
 ) -> Result<RowList, RowsError>
-    requires query { ValidQuery corpus.now.registry query.now }
+    requires query { Fits corpus.now.registry query.now }
     requires name { blank.name ≡ L.name }
     requires parts { blank.parts ≡ L.parts }
     requires some { 0 < L.parts }

@@ -4,7 +4,8 @@ use Rattle.std.specs.List.{All, position_or_len}
 use Rattle.mt_text_spec.specs.Registries.{Registry}
 use Rattle.mt_text_spec.specs.Texts.{Text, Row, ValidText}
 use Rattle.mt_text_spec.specs.Queries.{Expr, Query}
-use Rattle.mt_query_spec.specs.Valid.{ValidExpr, ValidQuery}
+use Rattle.mt_query_spec.specs.Valid.{ValidExpr}
+use Rattle.mt_eval_spec.specs.Fits.{Fits}
 use Rattle.mt_match_spec.specs.Values.{Images}
 use Rattle.mt_match_spec.specs.Rows.{Rows}
 use Rattle.mt_match_spec.specs.Kept.{Kept, HasTooMany, Over}
@@ -28,7 +29,7 @@ RowsAreJoined = (images : Images) (registry : Registry) (first : List Text) (gro
 -- and those that a query keeps
 abbrev pub KeptAreJoined : Type 0
 KeptAreJoined = (images : Images) (registry : Registry) (first : List Text) (group : Group) (tables : Tables) (query : Query) (rows more : List Row) →
-    ValidQuery registry query → Tell images registry (all_texts group) tables → Kept images registry first query rows → KeptIn tables (live_numbers 0 group) query more →
+    Fits registry query → Tell images registry (all_texts group) tables → Kept images registry first query rows → KeptIn tables (live_numbers 0 group) query more →
     Kept images registry (first ++ live_texts group) query (rows ++ map (placed (length first) (live_numbers 0 group)) more)
 
 -- more texts take no row away

@@ -15,7 +15,7 @@ valid_operands registry (More kind head filters others) v =
     All-cons (ValidExpr registry) head _ v.0 (All-append (ValidExpr registry) (operands filters) (operands others) (valid_operands registry filters v.2) (valid_operands registry others v.3))
 
 pub valid_at : (tables : Tables) (query : Query) (is : IsFor tables query) (number : ℕ) (expr : Expr) → number < length (heads query) → expr_at (heads query) number ≡ expr → ValidExpr is.registry expr
-valid_at tables query is number expr l e = subst (ValidExpr is.registry) e (All-cons (ValidExpr is.registry) query.head (operands query.filters) is.valid.head (valid_operands is.registry query.filters is.valid.filters) number _ l)
+valid_at tables query is number expr l e = subst (ValidExpr is.registry) e (All-cons (ValidExpr is.registry) query.head (operands query.filters) is.fits.head (valid_operands is.registry query.filters is.fits.filters) number _ l)
 
 -- what stands at one place of two lists that go together
 pub together : {X Y : Type 0} (R : X → Y → Type 0) (xs : List X) (ys : List Y) (i : ℕ) (d : X) (e : Y) → AllZip R xs ys → i < length xs → R (get_or xs i d) (get_or ys i e)

@@ -35,7 +35,7 @@ each_for tables registry head (c ∷ all) count v =
     All-cons (conds.IsFor tables) c all (record { left = let l = v.0.left_attr in omega (arith, count, l); right = let r = v.0.right_attr in omega (arith, count, r) }) (each_for tables registry head all count v.1)
 
 pub conds_for : (tables : Tables) (query : Query) → IsFor tables query → AreFor tables query.conds
-conds_for tables query is = each_for tables is.registry query.head query.conds is.under.by.are.attr_count is.valid.conds
+conds_for tables query is = each_for tables is.registry query.head query.conds is.under.by.are.attr_count is.fits.conds
 
 -- ---- rows
 

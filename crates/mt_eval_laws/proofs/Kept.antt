@@ -6,7 +6,8 @@ use Rattle.std.proofs.lemmas.List.Elements.{All-nil, All-cons}
 use Rattle.mt_text_spec.specs.Registries.{Registry}
 use Rattle.mt_text_spec.specs.Texts.{Text, Row, Span}
 use Rattle.mt_text_spec.specs.Queries.{Expr, FilterKind, Within, NotWithin, Containing, NotContaining, Filters, NoMore, More, Cond, Query}
-use Rattle.mt_query_spec.specs.Valid.{ValidExpr, ValidFilters, ValidCond, ValidConds, ValidQuery}
+use Rattle.mt_query_spec.specs.Valid.{ValidExpr, ValidFilters, ValidCond, ValidConds}
+use Rattle.mt_eval_spec.specs.Fits.{Fits}
 use Rattle.mt_match_spec.specs.Tests.{Unless}
 use Rattle.mt_match_spec.specs.Labels.{IsSetTo}
 use Rattle.mt_match_spec.specs.Values.{value_at}
@@ -116,7 +117,7 @@ module _ (given : Given) (images : List ℕ → List ℕ → List ℕ) (registry
               (sym (value_same cond.right_attr cond.right m.right v.right_attr m.text m.there (subst (λ (t : Text). m.right < length t.tokens) same (place_inside cond.right m.right m.right_set)))) m.compare;
         }
 
-  pub kept_told : (query : Query) → ValidQuery registry query → SaySame (KeepsIn all texts query) (λ row. Contains texts row.span.text × Keeps images registry corpus query row)
+  pub kept_told : (query : Query) → Fits registry query → SaySame (KeepsIn all texts query) (λ row. Contains texts row.span.text × Keeps images registry corpus query row)
   kept_told query valid = record {
     on = λ row k.
         let is = (rows_told given images registry corpus all tell texts query.head valid.head).on row k.is_row in (

@@ -5,13 +5,14 @@ use Rattle.std.specs.List.Sorted.{IsStrictlySortedBy, IsStrictlyIncreasing}
 use Rattle.mt_text_spec.specs.Registries.{Registry, ValidRegistry}
 use Rattle.mt_text_spec.specs.Texts.{Text, Row, ValidCorpus}
 use Rattle.mt_text_spec.specs.Queries.{Expr, Query}
-use Rattle.mt_query_spec.specs.Valid.{ValidExpr, ValidQuery}
+use Rattle.mt_query_spec.specs.Valid.{ValidExpr}
 use Rattle.mt_text_spec.specs.Orders.{row_cmp}
 use Rattle.mt_match_spec.specs.Rows.{IsRow}
 use Rattle.mt_match_spec.specs.Kept.{Keeps}
 use Rattle.mt_segment_spec.specs.Tables.{Tables, AreTables, AreTablesOf, AreTablesUnder, number_at, tables_at, token_count}
 use Rattle.mt_match_spec.specs.Labels.{IsSetTo}
 use Rattle.mt_eval_spec.specs.Told.{told_tokens}
+use Rattle.mt_eval_spec.specs.Fits.{Fits}
 use Rattle.mt_eval_spec.specs.RowsIn.{IsRowIn, RowsIn, KeepsIn}
 
 -- the tables are those of these texts, which are valid
@@ -34,7 +35,7 @@ RowsAreTold = (images : List ℕ → List ℕ → List ℕ) (registry : Registry
 -- and so are those that a query keeps
 abbrev pub KeptAreTold : Type 0
 KeptAreTold = (images : List ℕ → List ℕ → List ℕ) (registry : Registry) (corpus : List Text) (tables : Tables) (texts : List ℕ) (query : Query) →
-    Tell images registry corpus tables → ValidQuery registry query →
+    Tell images registry corpus tables → Fits registry query →
     SaySame (KeepsIn tables texts query) (λ row. Contains texts row.span.text × Keeps images registry corpus query row)
 
 -- an expression has a list of its rows in any texts of a segment

@@ -1,3 +1,4 @@
+pub mod Fits
 pub mod Told
 pub mod RowsIn
 pub mod Asked

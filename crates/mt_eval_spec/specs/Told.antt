@@ -4,10 +4,10 @@ use Rattle.std.specs.List.{Contains}
 use Rattle.mt_text_spec.specs.Registries.{Registry}
 use Rattle.mt_text_spec.specs.Texts.{StructSpan}
 use Rattle.mt_text_spec.specs.Queries.{Test, Query}
-use Rattle.mt_query_spec.specs.Valid.{ValidQuery}
 use Rattle.mt_match_spec.specs.Tests.{Holds}
 use Rattle.mt_match_spec.specs.Matches.{Sight}
 use Rattle.mt_segment_spec.specs.Tables.{Tables, AreTablesUnder, first_place, number_at, tables_at}
+use Rattle.mt_eval_spec.specs.Fits.{Fits}
 
 -- the value of an attribute at a place of the segment: the one of the number that stands there
 abbrev pub told_value : Tables → (attr place : ℕ) → List ℕ
@@ -45,8 +45,8 @@ told tables text = record {
   lies = IsToldInstance tables text;
 }
 
--- The query is a valid one under the registry that the tables are made under.
+-- The query fits the registry that the tables are made under.
 pub record IsFor (tables : Tables) (query : Query) : Type 0 where
   pub registry : Registry
   pub under : AreTablesUnder registry tables
-  pub valid : ValidQuery registry query
+  pub fits : Fits registry query

@@ -43,8 +43,8 @@ filters_names registry P Q g h (q.More kind head filters others) v = (expr_names
 
 pub head_named : (tables : Tables) (query : q.Query) → IsFor tables query → Names (HasAttr tables) (HasKind tables) query.head
 head_named tables query f =
-    expr_names f.registry (HasAttr tables) (HasKind tables) (λ attr l. omega (arith, f.under.by.are.attr_count)) (λ kind l. omega (arith, f.under.by.are.kind_count)) query.head f.valid.head
+    expr_names f.registry (HasAttr tables) (HasKind tables) (λ attr l. omega (arith, f.under.by.are.attr_count)) (λ kind l. omega (arith, f.under.by.are.kind_count)) query.head f.fits.head
 
 pub filters_named : (tables : Tables) (query : q.Query) → IsFor tables query → FiltersName (HasAttr tables) (HasKind tables) query.filters
 filters_named tables query f =
-    filters_names f.registry (HasAttr tables) (HasKind tables) (λ attr l. omega (arith, f.under.by.are.attr_count)) (λ kind l. omega (arith, f.under.by.are.kind_count)) query.filters f.valid.filters
+    filters_names f.registry (HasAttr tables) (HasKind tables) (λ attr l. omega (arith, f.under.by.are.attr_count)) (λ kind l. omega (arith, f.under.by.are.kind_count)) query.filters f.fits.filters

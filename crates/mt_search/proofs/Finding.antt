@@ -9,7 +9,8 @@ use Rattle.mt_text_spec.specs.Registries.{Registry}
 use Rattle.mt_text_spec.specs.Texts.{Text, Row}
 use Rattle.mt_text_spec.specs.Queries.{Expr, Filters, NoMore, More, Query}
 use Rattle.mt_text_spec.specs.Orders.{row_cmp}
-use Rattle.mt_query_spec.specs.Valid.{ValidExpr, ValidFilters, ValidQuery}
+use Rattle.mt_query_spec.specs.Valid.{ValidExpr, ValidFilters}
+use Rattle.mt_eval_spec.specs.Fits.{Fits}
 use Rattle.mt_match_spec.specs.Values.{Images}
 use Rattle.mt_match_spec.specs.Rows.{Rows}
 use Rattle.mt_match_spec.specs.Kept.{Kept, Over, operand_rows_limit}
@@ -57,14 +58,14 @@ module _ (images : Images) (registry : Registry) where
 pub listed_in : (tables : Tables) (live : List ℕ) (query : Query) (rows : List Row) → KeptIn tables live query rows → All (λ row. Contains live row.span.text) rows
 listed_in tables live query rows kept k d l = (kept.only (get_or rows k d) (All-contains_itself rows k d l)).is_row.listed
 
--- ---- the expressions of a valid query
+-- ---- the expressions of a query that fits
 
 valid_operands : (registry : Registry) (filters : Filters) → ValidFilters registry filters → All (ValidExpr registry) (operands filters)
 valid_operands registry NoMore v = All-nil (ValidExpr registry)
 valid_operands registry (More kind head filters others) v =
     All-cons (ValidExpr registry) head _ v.0 (All-append (ValidExpr registry) (operands filters) (operands others) (valid_operands registry filters v.2) (valid_operands registry others v.3))
 
-valid_at : (registry : Registry) (query : Query) → ValidQuery registry query → (number : ℕ) → number < length (heads query) → ValidExpr registry (expr_at (heads query) number)
+valid_at : (registry : Registry) (query : Query) → Fits registry query → (number : ℕ) → number < length (heads query) → ValidExpr registry (expr_at (heads query) number)
 valid_at registry query v number l = All-cons (ValidExpr registry) query.head (operands query.filters) v.head (valid_operands registry query.filters v.filters) number _ l
 
 -- ---- one segment more
@@ -78,7 +79,7 @@ module _ (images : Images) (registry : Registry) (corpus : List Text) (query : Q
   joined_rows : RowsAreJoined → (number : ℕ) → number < length (heads query) → (old found : List Row) → Rows images registry corpus (expr_at (heads query) number) old → RowsIn tables live (expr_at (heads query) number) found →
       Rows images registry (corpus ++ live_texts group) (expr_at (heads query) number) (old ++ map (placed (length corpus) (live_numbers 0 group)) found)
   joined_rows law number l old found was are =
-      law images registry corpus group tables (expr_at (heads query) number) old found (valid_at registry query next.valid number l) next.tell was
+      law images registry corpus group tables (expr_at (heads query) number) old found (valid_at registry query next.fits number l) next.tell was
       (subst (λ (ns : List ℕ). RowsIn tables ns (expr_at (heads query) number) found) next.numbers are)
 
   joined_count : (old found : List Row) → length (old ++ map (placed (length corpus) (live_numbers 0 group)) found) ≡ length old + length found
@@ -94,7 +95,7 @@ module _ (images : Images) (registry : Registry) (corpus : List Text) (query : Q
       all ≡ rows ++ map (placed texts live) found → count ≡ texts + length live → Finds images registry (corpus ++ live_texts group) query all left count
   found_more kept_law rows_law numbered found all left count kept leaves is counted = record {
     kept = subst (Kept images registry (corpus ++ live_texts group) query) (same_placed found ∙ sym is)
-        (kept_law images registry corpus group tables query rows found next.valid next.tell finds.kept (subst (λ (ns : List ℕ). KeptIn tables ns query found) next.numbers kept));
+        (kept_law images registry corpus group tables query rows found next.fits next.tell finds.kept (subst (λ (ns : List ℕ). KeptIn tables ns query found) next.numbers kept));
     leaves = λ number l.
         let old = finds.leaves number l in
         let new = leaves.each number l in

@@ -5,7 +5,7 @@ use Rattle.std.proofs.lemmas.List.{append-nil, append_assoc, get_or_append_left,
 use Rattle.mt_text_spec.specs.Registries.{Registry}
 use Rattle.mt_text_spec.specs.Texts.{Text, ValidText}
 use Rattle.mt_text_spec.specs.Queries.{Query, Expr}
-use Rattle.mt_query_spec.specs.Valid.{ValidQuery}
+use Rattle.mt_eval_spec.specs.Fits.{Fits}
 use Rattle.mt_match_spec.specs.Values.{Images}
 use Rattle.mt_match_laws.specs.Laws.{HaveRows}
 use Rattle.mt_segment_spec.specs.Tables.{Tables, AreTablesOf, AreTablesUnder}
@@ -71,15 +71,15 @@ too_many_in_all have law images registry groups i d exprs l some =
 -- ---- the segment of a group
 
 pub is_next : GroupsAreTold → (images : Images) (registry : Registry) (groups : List Group) (segments : List Tables) (live : List (List ℕ)) (query : Query) → StandFor images registry groups segments live →
-    All (AreTablesUnder registry) segments → ValidGroups registry groups → ValidQuery registry query → (i : ℕ) (tables : Tables) (numbers : List ℕ) → i < length segments →
+    All (AreTablesUnder registry) segments → ValidGroups registry groups → Fits registry query → (i : ℕ) (tables : Tables) (numbers : List ℕ) → i < length segments →
     tables ≡ get_or segments i tables → numbers ≡ get_or live i numbers → IsNext images registry query (get_or groups i []) tables numbers
-is_next law images registry groups segments live query stand under valid is_valid i tables numbers l t n =
+is_next law images registry groups segments live query stand under valid query_fits i tables numbers l t n =
     let count = same_count (λ group tables. AreTablesOf images registry (all_texts group) tables) groups segments stand.tables in
     let low : i < length groups = omega (arith, l, count) in
     let made : AreTablesOf images registry (all_texts (get_or groups i [])) tables =
     subst (AreTablesOf images registry (all_texts (get_or groups i []))) (sym t) (together (λ group tables. AreTablesOf images registry (all_texts group) tables) groups segments i [] tables stand.tables low) in
     record {
-      valid = is_valid;
+      fits = query_fits;
       tell = law images registry (get_or groups i []) tables (all_of_one (ValidText registry) all_texts groups i [] low valid.texts) made (subst (AreTablesUnder registry) (sym t) (under i tables l));
       numbers = n ∙ ap (λ (ns : List (List ℕ)). get_or ns i numbers) stand.marks ∙ get_or-map (live_numbers 0) groups i [] numbers low;
     }

@@ -6,7 +6,7 @@ use Rattle.mt_text_spec.specs.Registries.{Registry}
 use Rattle.mt_text_spec.specs.Texts.{Text, Row}
 use Rattle.mt_text_spec.specs.Queries.{Expr, Query}
 use Rattle.mt_text_spec.specs.Orders.{row_cmp}
-use Rattle.mt_query_spec.specs.Valid.{ValidQuery}
+use Rattle.mt_eval_spec.specs.Fits.{Fits}
 use Rattle.mt_match_spec.specs.Values.{Images}
 use Rattle.mt_match_spec.specs.Rows.{Rows}
 use Rattle.mt_match_spec.specs.Kept.{Kept, operand_rows_limit}
@@ -33,8 +33,8 @@ pub record Finds (images : Images) (registry : Registry) (corpus : List Text) (q
   pub leaves : (number : ℕ) → number < length (heads query) → LeavesOfLimit images registry corpus (expr_at (heads query) number) (slice_index_or rooms number 0)
   pub count : texts ≡ length corpus
 
--- The query is valid, and a segment is that of a group, whose live texts have these numbers.
+-- The query fits the registry, and a segment is that of a group, whose live texts have these numbers.
 pub record IsNext (images : Images) (registry : Registry) (query : Query) (group : Group) (tables : Tables) (live : List ℕ) : Type 0 where
-  pub valid : ValidQuery registry query
+  pub fits : Fits registry query
   pub tell : Tell images registry (all_texts group) tables
   pub numbers : live ≡ live_numbers 0 group

@@ -2,11 +2,11 @@
 
 ghost use Rattle.std.specs.Prelude.{◌≡◌, ◌-◌, ◌≤◌, IfOk, IfErr, OnOk, IsErrOf};
 ghost use Rattle.std.specs.List.{All};
-ghost use Rattle.mt_query_spec.specs.Valid.{ValidQuery};
 ghost use Rattle.mt_match_spec.specs.Kept.{Kept, Over};
 ghost use Rattle.mt_match_spec.specs.Values.{Images};
 ghost use Rattle.mt_eval_spec.specs.Asked.{query_patterns};
 ghost use Rattle.mt_eval_spec.specs.RowsIn.{heads};
+ghost use Rattle.mt_eval_spec.specs.Fits.{Fits};
 ghost use Rattle.mt_eval_spec.specs.Literals.{IsPlain};
 ghost use Rattle.mt_prepare.specs.Built.{IsWhole};
 ghost use Rattle.mt_corpus_spec.specs.Groups.{corpus_of};
@@ -38,7 +38,7 @@ fn found_in<P: PatternShop, L: Ledger>(
     shop: &mut P,
     steps: &mut Steps<L>,
 ) -> Result<Found, EvalError>
-    requires query { ValidQuery corpus.now.registry query.now }
+    requires query { Fits corpus.now.registry query.now }
     requires patterns { patterns.old ≡ query_patterns query.now }
     ensures order { IfOk result (λ found. AreInOrder found.rows found.texts) }
     ensures finds { (images : Images) → AreImagesBy images corpus.now.taken
@@ -79,7 +79,7 @@ pub fn rows<P: PatternShop, L: Ledger>(
     shop: &mut P,
     steps: &mut Steps<L>,
 ) -> Result<RowList, RowsError>
-    requires { ValidQuery corpus.now.registry query.now }
+    requires { Fits corpus.now.registry query.now }
     ensures kept { (images : Images) → AreImagesBy images corpus.now.taken → IfOk result (λ rows. Kept images corpus.now.registry (corpus_of corpus.now.groups) query.now rows) }
     ensures within { (images : Images) → AreImagesBy images corpus.now.taken → OnOk result (¬ Over images corpus.now.registry (corpus_of corpus.now.groups) query.now) }
     ensures over { (images : Images) → AreImagesBy images corpus.now.taken → IsErrOf result RowsError.TooManyRows → Over images corpus.now.registry (corpus_of corpus.now.groups) query.now }
