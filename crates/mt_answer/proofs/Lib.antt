@@ -6,3 +6,4 @@ pub mod Declines
 pub mod SpanCounts
 pub mod Texts
 pub mod Answers
+pub mod Fitting
