@@ -1,0 +1,4 @@
+pub mod Near
+pub mod Listed
+pub mod Scored
+pub mod Reported
