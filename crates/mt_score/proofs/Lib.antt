@@ -5,3 +5,5 @@ pub mod Scores
 pub mod Texts
 pub mod Order
 pub mod Logarithm
+pub mod Having
+pub mod Great

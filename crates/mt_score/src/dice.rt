@@ -41,7 +41,7 @@ fn doublings(two_f: u64, sum: u64) -> u32
 }
 
 /// The last constant that `sum` can be multiplied by without passing `limit`.
-fn last_within(limit: u128, sum: u64) -> usize
+pub(crate) fn last_within(limit: u128, sum: u64) -> usize
     requires one { sum * 10 ^ 9 ≤ limit }
     requires small { sum ≤ 2 ^ 40 }
     ensures index { result < 16 }

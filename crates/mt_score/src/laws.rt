@@ -1,7 +1,7 @@
 //! Laws of the score. Each is the contract of a function that does nothing.
 
-ghost use Rattle.std.specs.Prelude.{ℕ, ◌<◌, slice_index};
-ghost use Rattle.mt_sketch_spec.specs.Score.{IsConstant, ScoreIsWithinASixteenth, ScoreIsUnique, ScoreIsMonotone, ScoreIsLogDice};
+ghost use Rattle.std.specs.Prelude.{ℕ, ℤ, ◌*◌, ◌<◌, slice_index};
+ghost use Rattle.mt_sketch_spec.specs.Score.{IsConstant, IsScore, ScoreIsWithinASixteenth, ScoreIsUnique, ScoreIsMonotone, ScoreIsLogDice};
 
 use super::CONSTANTS;
 
@@ -13,6 +13,11 @@ pub fn constants_are_rounded_up()
 /// A fraction comes up to its score, and not a sixteenth higher.
 pub fn score_is_within_a_sixteenth()
     ensures { ScoreIsWithinASixteenth }
+{}
+
+/// A fraction above 0 and below 2 has a score.
+pub fn there_is_a_score()
+    ensures { (two_f sum : ℕ) → 0 < two_f → two_f < 2 * sum → (score : ℤ) × IsScore two_f sum score }
 {}
 
 /// A fraction has one score at most.

@@ -7,7 +7,9 @@ pub mod laws;
 mod sixteenths;
 #[cfg(test)]
 mod tests;
+mod wide;
 
 pub use dice::{CONSTANTS, log_dice};
 pub use fraction::compare_fractions;
 pub use sixteenths::write_sixteenths;
+pub use wide::score;
