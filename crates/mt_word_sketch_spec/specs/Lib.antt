@@ -1,0 +1,5 @@
+pub mod Ranks
+pub mod Order
+pub mod Frequencies
+pub mod Sketches
+pub mod Thesaurus
