@@ -37,7 +37,7 @@ span_at (s ∷ spans) (l ∷ labels) (suc i) span e = span_at spans labels i spa
 
 -- ---- a cut and a push
 
-take_none : (n : ℕ) → take {A = List ℕ} n [] ≡ []
+pub take_none : (n : ℕ) → take {A = List ℕ} n [] ≡ []
 take_none zero = refl
 take_none (suc n) = refl
 

@@ -3,3 +3,4 @@ pub mod Keeping
 pub mod SpansOf
 pub mod Sweeps
 pub mod Marking
+pub mod Nine

@@ -3,3 +3,4 @@ pub mod Appends
 pub mod Marks
 pub mod Laws
 pub mod Filters
+pub mod LabelSets

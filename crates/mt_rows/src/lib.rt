@@ -5,6 +5,7 @@
 
 mod error;
 mod filters;
+mod label_sets;
 mod marks;
 mod row_list;
 mod rows;

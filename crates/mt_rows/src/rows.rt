@@ -1,19 +1,20 @@
 //! Rows in any order.
 
-ghost use Rattle.std.specs.Prelude.{◌≡◌, ◌-◌, ◌<◌, ◌≤◌, [], ◌∷◌, ◌++◌, false, length, map, take, replicate, nat_eq, slice_get, Some, IfOk, OnOk, OnErr, IsSomeAnd};
+ghost use Rattle.std.specs.Prelude.{◌≡◌, ◌<◌, [], ◌∷◌, ◌++◌, false, length, map, take, nat_eq, slice_get, Some, OnOk, OnErr, IsSomeAnd};
 ghost use Rattle.mt_match_spec.specs.Labels.{no_labels};
 ghost use Rattle.mt_rows.specs.Marks.{kept};
 
+use crate::label_sets::LabelSets;
 use crate::marks::keep_marked;
 use mt_base::{NoMemory, Row, Span};
 use std::alloc::Global;
 use std::marker::Model;
 
-/// Rows one after another, in any order. A row takes 12 bytes while no label is set, and 48 from the first labelled row on.
+/// Rows one after another, in any order. A row takes 12 bytes while no label is set, 20 from the first labelled row on, and 48 from the first one on where one of the labels 3 to 9 is set.
 #[derive(Debug, Drop)]
 pub struct Rows {
     spans: Vec<Span>,
-    labels: Vec<[u32; 9]>,
+    labels: LabelSets,
 }
 
 impl Model for Rows {
@@ -23,9 +24,9 @@ impl Model for Rows {
 
     ghost Value = { List spec.Row };
 
-    ghost view = { λ r. joined r.spans.items r.labels.items };
+    ghost view = { λ r. joined r.spans.items r.labels };
 
-    ghost invariant = { λ r. length r.labels.items ≤ length r.spans.items };
+    ghost invariant = { λ r. length r.labels ≤ length r.spans.items };
 }
 
 impl Rows {
@@ -35,7 +36,7 @@ impl Rows {
     {
         Rows {
             spans: Vec::new(alloc),
-            labels: Vec::new(alloc),
+            labels: LabelSets::new(alloc),
         }
     }
 
@@ -60,7 +61,7 @@ impl Rows {
     {
         let span = self.spans[i];
         match self.labels.get(i) {
-            Some(labels) => Row::new(span, *labels),
+            Some(labels) => Row::new(span, labels),
             None => Row::unlabelled(span),
         }
     }
@@ -90,7 +91,7 @@ impl Rows {
         }
         let at = self.spans.len();
         self.spans.push(row.span())?;
-        match put_labels(&mut self.labels, at, *row.labels()) {
+        match self.labels.put(at, row.labels()) {
             Ok(()) => Ok(()),
             Err(NoMemory) => {
                 self.spans.truncate(at);
@@ -122,7 +123,7 @@ impl Rows {
         ensures { self.new ≡ kept marks.now self.old }
     {
         keep_marked(&mut self.spans, marks);
-        keep_marked(&mut self.labels, marks);
+        self.labels.keep(marks);
     }
 
     /// Takes all rows away, and keeps the memory for others.
@@ -139,21 +140,4 @@ fn is_labelled(row: &Row) -> bool
     ensures { result ≡ false → row.now.labels ≡ no_labels }
 {
     *row.labels() != [Row::UNSET; 9]
-}
-
-/// Puts labels at a place behind the others. At the places before it where there are none, no label is set.
-fn put_labels(labels: &mut Vec<[u32; 9]>, at: usize, set: [u32; 9]) -> Result<(), NoMemory>
-    requires { length labels.old.items ≤ at }
-    ensures ok { OnOk result (labels.new.items ≡ (labels.old.items ++ replicate (at - length labels.old.items) no_labels) ++ set ∷ []) }
-    ensures err { OnErr result (labels.new.items ≡ labels.old.items) }
-{
-    let before = labels.len();
-    labels.resize(at, [Row::UNSET; 9])?;
-    match labels.push(set) {
-        Ok(()) => Ok(()),
-        Err(_) => {
-            labels.truncate(before);
-            Err(NoMemory)
-        }
-    }
 }

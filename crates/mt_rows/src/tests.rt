@@ -17,7 +17,7 @@ fn six(alloc: Global) -> Result<RowList, NoMemory>
         u32::MAX,
         u32::MAX,
         u32::MAX,
-        u32::MAX,
+        3,
         u32::MAX,
         u32::MAX,
         u32::MAX,
@@ -90,9 +90,15 @@ fn labels_stay(rt: HostRuntime) -> Result<(), Fail> {
     list.keep(&[false, true, true, true, false, true]);
     let rows = list.into_rows();
     assert_eq!(rt; rows.len(), 4);
-    for (i, label) in [(0, u32::MAX), (1, 2), (2, u32::MAX), (3, u32::MAX)] {
+    for (i, label, other) in [
+        (0, u32::MAX, u32::MAX),
+        (1, 2, 3),
+        (2, u32::MAX, u32::MAX),
+        (3, u32::MAX, u32::MAX),
+    ] {
         if i < rows.len() {
             assert_eq!(rt; rows.get(i).labels()[0], label);
+            assert_eq!(rt; rows.get(i).labels()[4], other);
         }
     }
     Ok(())

@@ -4,13 +4,13 @@ use Rattle.mt_rows.proofs.Joined.{joined_length, joined_kept}
 use Rattle.mt_rows.proofs.rows.Rows.keep.Goals as goal
 
 pub keep_marked-requires : goal.keep_marked-requires
-keep_marked-requires c = omega (arith, c.requires, joined_length c.self.inside.spans.items c.self.inside.labels.items, ap length c.self.view_is)
+keep_marked-requires c = omega (arith, c.requires, joined_length c.self.inside.spans.items c.self.inside.labels, ap length c.self.view_is)
 
-pub keep_marked-requires-2 : goal.keep_marked-requires-2
-keep_marked-requires-2 c = omega (arith, c.requires, c.self.invariant, joined_length c.self.inside.spans.items c.self.inside.labels.items, ap length c.self.view_is)
+pub keep-requires : goal.keep-requires
+keep-requires c = omega (arith, c.requires, c.self.invariant, joined_length c.self.inside.spans.items c.self.inside.labels, ap length c.self.view_is)
 
 pub invariant_of-self : goal.invariant_of-self
-invariant_of-self c = rw (c.keep_marked.ensures, c.keep_marked-2.ensures) (kept_short c.args.marks.now c.self.inside.labels.items c.self.inside.spans.items c.self.invariant)
+invariant_of-self c = rw (c.keep_marked.ensures, c.keep.ensures) (kept_short c.args.marks.now c.self.inside.labels c.self.inside.spans.items c.self.invariant)
 
 pub returns : goal.returns
-returns c = rw (c.keep_marked.ensures, c.keep_marked-2.ensures, ← c.self.view_is) (joined_kept c.args.marks.now c.self.inside.spans.items c.self.inside.labels.items)
+returns c = rw (c.keep_marked.ensures, c.keep.ensures, ← c.self.view_is) (joined_kept c.args.marks.now c.self.inside.spans.items c.self.inside.labels)
