@@ -1,6 +1,6 @@
 -- The place of a number in a list, and of the texts of rows among live ones.
-use Rattle.std.proofs.Common.{◌≡◌, ℕ, zero, suc, ◌+◌, ◌<◌, ◌≤◌, ◌⊎◌, inl, inr, Bool, true, false, not, cond, nat_eq, List, [], ◌∷◌, ◌++◌, length, map, get_or, take, slice_get, Some, sym, ◌∙◌, ap, subst, arith, true≢false}
-use Rattle.std.specs.List.{All, AllPairs, Contains, position_or_len}
+use Rattle.std.proofs.Common.{◌≡◌, ℕ, zero, suc, ◌+◌, ◌<◌, ◌≤◌, ◌⊎◌, inl, inr, Bool, true, false, not, cond, nat_eq, List, [], ◌∷◌, ◌++◌, length, map, get_or, take, slice_get, Some, sym, ◌∙◌, ap, subst, arith, true≢false, refl}
+use Rattle.std.specs.List.{All, AllByRecursion, AllPairs, Contains, position_or_len}
 use Rattle.std.specs.List.Sorted.{IsStrictlySortedBy}
 use Rattle.std.specs.Ordering.{nat_cmp, ordering_then}
 use Rattle.std.specs.Cmp.{nat_cmp_is}
@@ -9,11 +9,12 @@ use Rattle.std.specs.declared.cmp.Ordering.{Ordering}
 use Rattle.std.specs.declared.cmp.Ordering.TheVariants.{Less, Greater}
 use Rattle.std.proofs.lemmas.Bool.{cases_lt, eqb-true, eq-eqb}
 use Rattle.std.proofs.lemmas.List.{get_or_default, take_more, map-append, append_assoc}
-use Rattle.std.proofs.lemmas.List.Elements.{All-from_recursion}
+use Rattle.std.proofs.lemmas.List.Elements.{All-from_recursion, recursion_from_All}
 use Rattle.std.proofs.lemmas.List.Sums.{fails_before_first, passes_at_first}
 use Rattle.std.proofs.lemmas.Option.{get_or_from_slice_get, slice_get_within}
 use Rattle.mt_text_spec.specs.Texts.{Row, Span}
 use Rattle.mt_text_spec.specs.Orders.{row_cmp}
+use Rattle.mt_corpus_laws.specs.Laws.{row_to}
 use Rattle.mt_corpus_laws.specs.Joined.{placed}
 
 -- ---- the first place of a number
@@ -141,3 +142,24 @@ one_placed before live rows old new i row other l is e n =
     ∙ append_assoc old (map (placed before live) (take i rows)) (placed before live row ∷ [])
     ∙ ap (λ (rs : List Row). old ++ rs) (sym (map-append (placed before live) (take i rows) (row ∷ [])))
     ∙ ap (λ (rs : List Row). old ++ map (placed before live) rs) (sym (take_more rows i row l ∙ ap (λ (r : Row). take i rows ++ r ∷ []) is))
+
+-- ---- where the live texts are 0, 1, 2 and so on, each row stays as it is
+
+pub same_place : (live : List ℕ) (text : ℕ) → ((k : ℕ) → k < length live → get_or live k 0 ≡ k) → Contains live text → place_of live text ≡ text
+same_place live text each c =
+    let s = contained live text c in
+    sym (each (place_of live text) s.inside) ∙ s.is
+
+pub all_stay : (live : List ℕ) (rows : List Row) → ((k : ℕ) → k < length live → get_or live k 0 ≡ k) → AllByRecursion (λ (row : Row). Contains live row.span.text) rows → map (placed 0 live) rows ≡ rows
+all_stay live [] each listed = refl
+all_stay live (row ∷ rows) each listed =
+    let same = same_place live row.span.text each listed.0 in
+    let is : 0 + place_of live row.span.text ≡ row.span.text = omega (arith, same) in
+    let here : placed 0 live row ≡ row = ap (λ (n : ℕ). row_to n row) is in
+    ap (λ (r : Row). r ∷ map (placed 0 live) rows) here ∙ ap (λ (rs : List Row). row ∷ rs) (all_stay live rows each listed.1)
+
+pub as_they_are : (live : List ℕ) (old more : List Row) (before : ℕ) → before ≡ 0 → nat_eq (length old) 0 ≡ true → ((k : ℕ) → k < length live → get_or live k 0 ≡ k) → All (λ (row : Row). Contains live row.span.text) more →
+    more ≡ old ++ map (placed before live) more
+as_they_are live [] more before b e each listed =
+    sym (ap (λ (n : ℕ). map (placed n live) more) b ∙ all_stay live more each (recursion_from_All (λ (row : Row). Contains live row.span.text) more listed))
+as_they_are live (o ∷ old) more before b e each listed = let l = eqb-true (length (o ∷ old)) 0 e in absurd (omega (arith, l))

@@ -96,7 +96,7 @@ impl Found {
             steps,
         )?;
         let texts = number_behind(self.texts, live.len())?;
-        add_placed(&mut self.rows, &rows, live.as_slice(), self.texts)?;
+        add_placed(&mut self.rows, rows, live.as_slice(), self.texts)?;
         self.texts = texts;
         Ok(())
     }

@@ -1,6 +1,6 @@
 //! Rows of a segment as rows of the corpus.
 
-ghost use Rattle.std.specs.Prelude.{◌≡◌, ◌+◌, ◌<◌, ◌≤◌, ◌++◌, length, map, nat_eq, OnOk};
+ghost use Rattle.std.specs.Prelude.{◌≡◌, ℕ, ◌+◌, ◌<◌, ◌≤◌, ◌++◌, true, length, map, nat_eq, slice_index, OnOk};
 ghost use Rattle.std.specs.List.{All, AllPairs, Contains, position_or_len};
 ghost use Rattle.mt_corpus_laws.specs.Joined.{placed};
 
@@ -28,13 +28,8 @@ fn row_in(row: &Row, text: u32) -> Row
     Row::new(Span::new(text, span.begin(), span.end()), *row.labels())
 }
 
-/// Adds rows of a segment, whose live texts have these numbers, behind those of so many earlier texts.
-pub(crate) fn add_placed(
-    rows: &mut Rows,
-    more: &RowList,
-    live: &[u32],
-    before: u32,
-) -> Result<(), NoMemory>
+/// Adds rows of a segment one by one, whose live texts have these numbers, behind those of so many earlier texts.
+fn push_placed(rows: &mut Rows, more: &RowList, live: &[u32], before: u32) -> Result<(), NoMemory>
     requires ascending { AllPairs (λ number later. number < later) live.now }
     requires listed { All (λ row. Contains live.now row.span.text) more.now }
     requires room { before + length live.now ≤ 4294967295 }
@@ -47,4 +42,35 @@ pub(crate) fn add_placed(
         rows.push(row_in(&row, before + place as u32))?;
     }
     Ok(())
+}
+
+/// Whether these numbers are 0, 1, 2 and so on.
+fn are_from_zero(numbers: &[u32]) -> bool
+    ensures { result ≡ true → (k : ℕ) → k < length numbers.now → slice_index numbers.now k ≡ k }
+{
+    for place in 0..numbers.len() {
+        if numbers[place] as usize != place {
+            return false;
+        }
+    }
+    true
+}
+
+/// Adds rows of a segment, whose live texts have these numbers, behind those of so many earlier texts. The first rows whose texts keep their numbers are taken as they are.
+pub(crate) fn add_placed(
+    rows: &mut Rows,
+    more: RowList,
+    live: &[u32],
+    before: u32,
+) -> Result<(), NoMemory>
+    requires ascending { AllPairs (λ number later. number < later) live.now }
+    requires listed { All (λ row. Contains live.now row.span.text) more }
+    requires room { before + length live.now ≤ 4294967295 }
+    ensures { OnOk result (rows.new ≡ rows.old ++ map (placed before live.now) more) }
+{
+    if before == 0 && rows.is_empty() && are_from_zero(live) {
+        *rows = more.into_rows();
+        return Ok(());
+    }
+    push_placed(rows, &more, live, before)
 }
