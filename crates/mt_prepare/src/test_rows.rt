@@ -199,7 +199,7 @@ fn are_rare(segment: &Segment, attr: u16, numbers: &Places) -> bool
     requires numbers { AreNumbers segment.now attr numbers.now }
 {
     let _count = segment.lexicon(attr).len();
-    let mut left = segment.tokens() / 4;
+    let mut left = segment.tokens() / 2;
     let mut next = 0;
     while let Some(number) = numbers.first_from(next) {
         let len = segment.postings(attr, number).len();
