@@ -2,10 +2,15 @@
 use Rattle.std.proofs.Common.{◌≡◌, ℕ, zero, suc, ◌+◌, ◌-◌, ◌≤◌, Bool, true, false, List, [], ◌∷◌, ◌++◌, length, take, drop, replicate, slice_get, Some, None, refl, ap, ap₂, sym, ◌∙◌, arith}
 use Rattle.std.proofs.lemmas.List.{take-append-drop}
 use Rattle.mt_match_spec.specs.Labels.{no_labels}
-use Rattle.mt_rows.specs.LabelSets.{no_pair, no_others, all_nine}
+use Rattle.mt_text_spec.specs.Texts.{unset}
+use Rattle.mt_rows.specs.LabelSets.{no_others, all_nine}
 use Rattle.mt_rows.specs.Marks.{kept}
 use Rattle.mt_rows.proofs.Keeping.{kept_none}
 use Rattle.mt_rows.proofs.Joined.{take_none}
+
+-- none of the labels 1 and 2 is set
+abbrev no_pair : List ℕ
+no_pair = replicate 2 unset
 
 pub nine_length : (pairs others : List (List ℕ)) → length (all_nine pairs others) ≡ length pairs
 nine_length [] others = refl

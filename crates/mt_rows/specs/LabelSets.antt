@@ -2,10 +2,6 @@
 use Rattle.std.specs.Prelude.{ℕ, List, [], ◌∷◌, ◌++◌, replicate}
 use Rattle.mt_text_spec.specs.Texts.{unset}
 
--- none of the labels 1 and 2 is set
-abbrev pub no_pair : List ℕ
-no_pair = replicate 2 unset
-
 -- none of the labels 3 to 9 is set
 abbrev pub no_others : List ℕ
 no_others = replicate 7 unset

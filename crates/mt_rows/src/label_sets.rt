@@ -2,7 +2,8 @@
 
 ghost use Rattle.std.specs.Prelude.{◌≡◌, ◌-◌, ◌≤◌, [], ◌∷◌, ◌++◌, true, length, take, drop, replicate, slice_get, OnOk, OnErr};
 ghost use Rattle.mt_match_spec.specs.Labels.{no_labels};
-ghost use Rattle.mt_rows.specs.LabelSets.{no_pair, no_others};
+ghost use Rattle.mt_text_spec.specs.Texts.{unset};
+ghost use Rattle.mt_rows.specs.LabelSets.{no_others};
 ghost use Rattle.mt_rows.specs.Marks.{kept};
 
 use crate::marks::keep_marked;
@@ -61,12 +62,12 @@ impl LabelSets {
         ensures err { OnErr result (self.new ≡ self.old) }
     {
         let before = self.pairs.len();
-        put_pair(&mut self.pairs, at, pair_of(set))?;
+        put_at(&mut self.pairs, at, pair_of(set))?;
         let others = others_of(set);
         if are_unset(&others) {
             return Ok(());
         }
-        match put_others(&mut self.others, at, others) {
+        match put_at(&mut self.others, at, others) {
             Ok(()) => Ok(()),
             Err(NoMemory) => {
                 self.pairs.truncate(before);
@@ -132,35 +133,22 @@ fn are_unset(others: &[u32; 7]) -> bool
     *others == [Row::UNSET; 7]
 }
 
-/// Puts the labels 1 and 2 at a place behind the others. At the places before it where there are none, none is set.
-fn put_pair(pairs: &mut Vec<[u32; 2]>, at: usize, pair: [u32; 2]) -> Result<(), NoMemory>
-    requires { length pairs.old.items ≤ at }
-    ensures ok { OnOk result (pairs.new.items ≡ (pairs.old.items ++ replicate (at - length pairs.old.items) no_pair) ++ pair ∷ []) }
-    ensures err { OnErr result (pairs.new.items ≡ pairs.old.items) }
+/// Puts some labels at a place behind the others. At the places before it where there are none, none is set.
+fn put_at<const N: usize>(
+    sets: &mut Vec<[u32; N]>,
+    at: usize,
+    set: [u32; N],
+) -> Result<(), NoMemory>
+    requires { length sets.old.items ≤ at }
+    ensures ok { OnOk result (sets.new.items ≡ (sets.old.items ++ replicate (at - length sets.old.items) (replicate N unset)) ++ set.entry ∷ []) }
+    ensures err { OnErr result (sets.new.items ≡ sets.old.items) }
 {
-    let before = pairs.len();
-    pairs.resize(at, [Row::UNSET; 2])?;
-    match pairs.push(pair) {
+    let before = sets.len();
+    sets.resize(at, [Row::UNSET; N])?;
+    match sets.push(set) {
         Ok(()) => Ok(()),
         Err(_) => {
-            pairs.truncate(before);
-            Err(NoMemory)
-        }
-    }
-}
-
-/// Puts the labels 3 to 9 at a place behind the others. At the places before it where there are none, none is set.
-fn put_others(others: &mut Vec<[u32; 7]>, at: usize, set: [u32; 7]) -> Result<(), NoMemory>
-    requires { length others.old.items ≤ at }
-    ensures ok { OnOk result (others.new.items ≡ (others.old.items ++ replicate (at - length others.old.items) no_others) ++ set ∷ []) }
-    ensures err { OnErr result (others.new.items ≡ others.old.items) }
-{
-    let before = others.len();
-    others.resize(at, [Row::UNSET; 7])?;
-    match others.push(set) {
-        Ok(()) => Ok(()),
-        Err(_) => {
-            others.truncate(before);
+            sets.truncate(before);
             Err(NoMemory)
         }
     }
