@@ -13,7 +13,7 @@ use Rattle.mt_vertical.specs.TextLaws.{OneText, NoTextWithFault}
 use Rattle.mt_script_spec.specs.Commands.{Text as TextCommand, Add}
 use Rattle.mt_session_spec.specs.World.{Held, World, Group, ValidHeld, Holds, IsFull, with_text, alone}
 use Rattle.mt_corpus_spec.specs.Images.{Corpus, AreImagesBy}
-use Rattle.mt_corpus.specs.Keeping.{AgreeWith}
+use Rattle.mt_corpus.specs.Keeping.{AgreeWith, firsts, is_named}
 use Rattle.mt_segment.specs.Mappers.{AreThere, named}
 use Rattle.mt_session_spec.specs.Settings.{Setting, images_of}
 use Rattle.mt_session_spec.specs.Gains.{Gained, none_gained}
@@ -209,6 +209,7 @@ serves_more setting mappers others state accepted corpus more v o r taken s =
     let t : Serves setting mappers (kept accepted corpus) = subst (λ (k : Kept). Serves setting mappers k) (sym v) s in
     record {
       all = λ e. o ∙ t.all e;
+      only = λ e. o ∙ t.only e ∙ ap (λ (registry : Registry). firsts (λ (mapper : List ℕ × (List ℕ → List ℕ)). mapper.0) (is_named registry) [] setting.mappers) (sym r);
       there = rw (o, r) t.there;
       agree = rw (o, r) t.agree;
       taken = taken (images_of setting) t.agree t.taken;

@@ -5,6 +5,7 @@ pub mod Keeping
 pub mod Unbuilt
 pub mod Adding
 pub mod Removing
+pub mod Dropping
 pub mod Registering
 pub mod Runs
 pub mod Talks

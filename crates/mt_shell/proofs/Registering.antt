@@ -10,7 +10,7 @@ use Rattle.mt_session_spec.specs.World.{Held}
 use Rattle.std.specs.Str.{bytes_eq}
 use Rattle.std.proofs.lemmas.List.Elements.{All-nil}
 use Rattle.mt_corpus_spec.specs.Images.{Corpus, Image}
-use Rattle.mt_corpus.specs.Keeping.{AgreeWith}
+use Rattle.mt_corpus.specs.Keeping.{AgreeWith, firsts, is_named}
 use Rattle.mt_segment.specs.Mappers.{AreThere, named, image_by as by_segment}
 use Rattle.mt_shell.specs.Serves.{Kept, Serves, kept}
 use Rattle.mt_shell.proofs.Adding.{called_named}
@@ -129,13 +129,14 @@ same_image (mapper ∷ mappers) name value = by (bytes_eq name mapper.0) (same_i
     by true e = refl
     by false e = e
 
-not_yet : true ≡ false → ⊥
+pub not_yet : true ≡ false → ⊥
 not_yet e = cc
 
 pub serves_registry : (setting : Setting) (old new : List (List ℕ × (List ℕ → List ℕ))) (state : Kept) (registry : Registry) (none : Corpus) → none ≡ bare registry → Serves setting old state → state.held.accepted ≡ false →
-    AreThere (map (λ mapper. mapper.0) new) registry.attrs → AgreeWith (by_segment old) new registry → Serves setting new (kept true none)
-serves_registry setting old new state registry none n s early there agree = subst (λ (c : Corpus). Serves setting new (kept true c)) (sym n) (record {
+    AreThere (map (λ mapper. mapper.0) new) registry.attrs → AgreeWith (by_segment old) new registry → new ≡ firsts (λ mapper. mapper.0) (is_named registry) [] old → Serves setting new (kept true none)
+serves_registry setting old new state registry none n s early there agree left = subst (λ (c : Corpus). Serves setting new (kept true c)) (sym n) (record {
   all = λ e. absurd (not_yet e);
+  only = λ e. left ∙ ap (firsts (λ (mapper : List ℕ × (List ℕ → List ℕ)). mapper.0) (is_named registry) []) (s.all early);
   there = there;
   agree = record { each = λ attr there some value. ap (λ mappers. by_setting mappers attr.mapper value) (sym (s.all early)) ∙ same_image old attr.mapper value ∙ agree.each attr there some value };
   taken = All-nil (λ (each : Image). images_of setting each.mapper each.value ≡ each.image);

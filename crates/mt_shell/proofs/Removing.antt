@@ -76,5 +76,5 @@ pub serves_less : (setting : Setting) (mappers : List (List ℕ × (List ℕ →
     Serves setting mappers state → Serves setting mappers (kept accepted more)
 serves_less setting mappers state accepted corpus more name v m s =
     let t : Serves setting mappers (kept accepted corpus) = subst (λ (k : Kept). Serves setting mappers k) (sym v) s in
-    let u : Serves setting mappers (kept accepted (less corpus name)) = record { all = t.all; there = t.there; agree = t.agree; taken = t.taken } in
+    let u : Serves setting mappers (kept accepted (less corpus name)) = record { all = t.all; only = t.only; there = t.there; agree = t.agree; taken = t.taken } in
     subst (λ (c : Corpus). Serves setting mappers (kept accepted c)) (sym m) u

@@ -12,7 +12,7 @@ use Rattle.mt_shell.specs.declared.top.Status.{Status}
 use Rattle.mt_shell.specs.declared.top.Status.TheVariants.{Done}
 use Rattle.mt_segment.specs.Mappers.{IsThere}
 use Rattle.mt_shell.specs.Serves.{Kept, Serves, first_kept, setting_of}
-use Rattle.mt_shell.proofs.Registering.{same_image}
+use Rattle.mt_shell.proofs.Registering.{same_image, not_yet}
 
 -- what is within two is within their union
 pub both_within : (whole left right : List ℕ) → ((a : ℕ) → Mem a left → Mem a whole) → ((a : ℕ) → Mem a right → Mem a whole) → (a : ℕ) → Mem a (left ++ right) → Mem a whole
@@ -42,6 +42,7 @@ serves_first mappers state e =
     let lemma = base_attr (codes "lemma") in
     subst (λ (k : Kept). Serves (setting_of mappers) mappers k) (sym e) (record {
       all = λ h. refl;
+      only = λ h. absurd (not_yet (sym h));
       there = All-cons (IsThere names) word (tag ∷ lemma ∷ []) (base_there names (codes "word"))
           (All-cons (IsThere names) tag (lemma ∷ []) (base_there names (codes "tag")) (All-cons (IsThere names) lemma [] (base_there names (codes "lemma")) (All-nil (IsThere names))));
       agree = record { each = λ attr there some value. same_image mappers attr.mapper value };

@@ -1,4 +1,5 @@
 use Rattle.mt_segment.specs.Mappers.{named}
+use Rattle.mt_shell.proofs.Dropping.{named_left}
 use Rattle.mt_shell.proofs.Registering.{set, set_not, registry_changed, serves_registry, names_there}
 use Rattle.mt_shell.proofs.state.State.keep_registry.Goals as goal
 
@@ -13,3 +14,4 @@ pub returns-clause-serves : goal.returns-clause-serves
 returns-clause-serves g c =
     serves_registry g.setting (named g.M.Mapper.called g.M.Mapper.image c.args.mappers.now.items) (named g.M.Mapper.called g.M.Mapper.image c.keep_named.new.mappers.items) c.args.self.now c.args.registry c.new.result c.new.ensures
     c.requires.1.1.1.1.1 c.requires.1.1.1.1.0 (names_there g.M.Mapper.called g.M.Mapper.image c.keep_named.new.mappers.items c.args.registry (c.keep_named.ensures.there c.requires.1.1.1.0)) c.keep_named.ensures.images
+    (named_left g.M.Mapper.called g.M.Mapper.image c.args.registry c.args.mappers.now.items c.keep_named.new.mappers.items c.keep_named.ensures.kept)
