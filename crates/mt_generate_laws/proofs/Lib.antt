@@ -1,1 +1,4 @@
 pub mod ValidTexts
+pub mod LineRoles
+pub mod ReadLines
+pub mod ReadBack

@@ -16,13 +16,13 @@ use Rattle.mt_generate_spec.specs.Generated.{rank_of, lemma_of, tag_of, word_of,
 -- ## Values
 
 -- a byte that is seen when it is printed
-abbrev IsSeen : ℕ → Type 0
+abbrev pub IsSeen : ℕ → Type 0
 IsSeen b = (32 < b) × (b < 128)
 
-one_seen : (b : ℕ) → IsSeen b → All IsSeen (b ∷ [])
+pub one_seen : (b : ℕ) → IsSeen b → All IsSeen (b ∷ [])
 one_seen b h = All-cons IsSeen b [] h (All-nil IsSeen)
 
-ascii : (bytes : List ℕ) → All IsSeen bytes → IsAscii bytes
+pub ascii : (bytes : List ℕ) → All IsSeen bytes → IsAscii bytes
 ascii [] seen i = omega arith
 ascii (b ∷ bytes) seen zero = (seen 0 0 (omega arith)).1
 ascii (b ∷ bytes) seen (suc i) = ascii bytes (All-tail IsSeen b bytes seen) i
@@ -34,17 +34,17 @@ valid_value bytes seen short = record {
   plain = All-weaker IsSeen (λ b. (b ≢ 10) × (b ≢ 9)) (λ b h. ((λ e. absurd (omega (arith, e, h.0))), (λ e. absurd (omega (arith, e, h.0))))) bytes seen;
 }
 
-digits_seen : (n : ℕ) → n < 2 ^ 64 → All IsSeen (decimal n)
+pub digits_seen : (n : ℕ) → n < 2 ^ 64 → All IsSeen (decimal n)
 digits_seen = decimal_by_steps (λ n ds. All IsSeen ds) (λ n h. one_seen (48 + n) (omega arith, omega arith))
     (λ n ds h before. All-append IsSeen ds ((48 + n % 10) ∷ []) before (one_seen (48 + n % 10) (omega arith, omega arith)))
 
-rank_small : (a b : ℕ) → rank_of a b < 1000
+pub rank_small : (a b : ℕ) → rank_of a b < 1000
 rank_small a b = grind arith
 
-lemma_seen : (rank : ℕ) → rank < 1000 → All IsSeen (lemma_of rank)
+pub lemma_seen : (rank : ℕ) → rank < 1000 → All IsSeen (lemma_of rank)
 lemma_seen rank h = All-cons IsSeen 108 (decimal rank) (omega arith, omega arith) (digits_seen rank (omega arith))
 
-lemma_short : (rank : ℕ) → rank < 1000 → length (lemma_of rank) ≤ 4
+pub lemma_short : (rank : ℕ) → rank < 1000 → length (lemma_of rank) ≤ 4
 lemma_short rank h = omega (arith, length-decimal-le 3 rank (omega arith) (omega arith) (omega arith))
 
 word_valid : (rank : ℕ) (plural : Bool) → rank < 1000 → ValidValue (word_of rank plural)
