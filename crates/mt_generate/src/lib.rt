@@ -6,11 +6,13 @@
 
 mod script;
 mod source;
+mod standard;
 #[cfg(test)]
 mod tests;
 mod text;
 mod vertical;
 
 pub use script::demo;
+pub use standard::is_standard;
 pub use text::generated_text;
 pub use vertical::generated;

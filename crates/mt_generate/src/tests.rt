@@ -2,8 +2,8 @@
 
 ghost use Rattle.std.specs.Prelude.{◌<◌};
 
-use super::{demo, generated, generated_text};
-use mt_base::{NoMemory, Text, Value};
+use super::{demo, generated, generated_text, is_standard};
+use mt_base::{NoMemory, Registry, Text, Value};
 use std::alloc::Global;
 
 const SEVEN: &str =
@@ -56,6 +56,14 @@ fn is_script(alloc: Global, texts: u32, wanted: &str) -> bool {
     }
 }
 
+/// Whether the standard registry is found to be it.
+fn finds_standard(alloc: Global) -> bool {
+    match Registry::standard(alloc) {
+        Ok(registry) => is_standard(&registry),
+        Err(NoMemory) => false,
+    }
+}
+
 #[test]
 fn gives_what_the_rules_give(rt: HostRuntime) {
     let alloc = rt.alloc();
@@ -64,4 +72,5 @@ fn gives_what_the_rules_give(rt: HostRuntime) {
     assert!(rt; is_text(alloc, 7, 11, 2, "l388", "l388"));
     assert!(rt; is_text(alloc, 1, 4000, 400, "l78", "l78"));
     assert!(rt; is_script(alloc, 2, DEMO));
+    assert!(rt; finds_standard(alloc));
 }
