@@ -10,6 +10,7 @@ use Rattle.mt_registry.specs.RegistryLaws.{ValidRegistries}
 use Rattle.mt_script_spec.specs.Commands as command
 use Rattle.mt_script_spec.specs.Commands.{Ask, Command}
 use Rattle.mt_script_spec.specs.Script as script
+use Rattle.mt_generate_spec.specs.Verticals.{generated_vertical}
 use Rattle.mt_session_spec.specs.World.{World, Held, ValidHeld, Holds, with_text, without_text}
 use Rattle.mt_session_spec.specs.Settings.{Setting, mapper_names}
 use Rattle.mt_session_spec.specs.Scenes.{Scene, scene_of}
@@ -21,6 +22,7 @@ use Rattle.mt_session_spec.specs.Checks.{NoneStands}
 use Rattle.mt_session_spec.specs.Meaning.{Meaning, Question, LoadsNone, LoadsBehind, Exception, Starved, Blocked, ExceptsQuestion, QuestionStarved, QuestionExcepted, asking, unbuilt}
 use Rattle.mt_session_spec.specs.Registering.{registering, registry_front, with_registry}
 use Rattle.mt_session_spec.specs.Adding.{texting, adding, AddsText, text_checks, name_checks}
+use Rattle.mt_session_spec.specs.Generating.{generating}
 use Rattle.mt_session_spec.specs.Files.{IsFile}
 use Rattle.mt_session_spec.specs.Listing.{listing}
 use Rattle.mt_session_spec.specs.Quitting.{quitting}
@@ -32,7 +34,7 @@ use Rattle.mt_session_spec.specs.Steps.{IsSaid}
 use Rattle.mt_session_spec.specs.Laws.{told_failures}
 use Rattle.mt_session_laws.specs.Lawful.{KeepsValid, IsFair, TellsGained}
 use Rattle.mt_session_laws.proofs.Worlds.{text_valid, registry_valid, without_valid}
-use Rattle.mt_session_laws.proofs.Said.{text_name, add_name}
+use Rattle.mt_session_laws.proofs.Said.{text_name, add_name, generate_name}
 use Rattle.mt_session_laws.proofs.Failures.{no_failure, no_want, no_refused, none_told, one_untold, one_told}
 
 -- what the readers' laws say
@@ -108,7 +110,8 @@ pub keeps_valid : (laws : Validities) (setting : Setting) (world : World) (given
 keeps_valid laws setting world (command.Registry file) valid said = registry_keeps laws setting world file valid
 keeps_valid laws setting world (command.Text name body) valid said = texting_keeps laws world name body valid (text_name name body said)
 keeps_valid laws setting world (command.Add name file) valid said = adding_keeps laws world name file valid (add_name name file said)
-keeps_valid laws setting world (command.Generate name seed tokens) valid said = unbuilt_keeps world valid
+keeps_valid laws setting world (command.Generate name seed tokens) valid said =
+    texting_keeps laws world name (generated_vertical name seed tokens) valid (generate_name name seed tokens said)
 keeps_valid laws setting world (command.Asks ask) valid said = asking_keeps (question (scene_of setting world.held) ask) world valid
 keeps_valid laws setting world (command.Grammar file) valid said = unbuilt_keeps world valid
 keeps_valid laws setting world (command.Rules body) valid said = unbuilt_keeps world valid
@@ -182,7 +185,7 @@ pub is_fair : (setting : Setting) (world : World) (given : Command) → IsFair (
 is_fair setting world (command.Registry file) = plain_fair (registering setting world file) world (LoadsBehind (registry_front world) file) (AsksDeep (script.Given (command.Registry file))) refl (λ new line a. no_lines line _ a.says)
 is_fair setting world (command.Text name body) = plain_fair (texting world name body) world LoadsNone (AsksDeep (script.Given (command.Text name body))) refl (λ new line a. no_lines line _ a.says)
 is_fair setting world (command.Add name file) = plain_fair (adding world name file) world (LoadsBehind (name_checks world.held name) file) (AsksDeep (script.Given (command.Add name file))) refl (λ new line a. no_lines line _ a.says)
-is_fair setting world (command.Generate name seed tokens) = unbuilt_fair world (AsksDeep (script.Given (command.Generate name seed tokens)))
+is_fair setting world (command.Generate name seed tokens) = plain_fair (generating world name seed tokens) world LoadsNone (AsksDeep (script.Given (command.Generate name seed tokens))) refl (λ new line a. no_lines line _ a.says)
 is_fair setting world (command.Asks ask) = asking_fair (scene_of setting world.held) ask world
 is_fair setting world (command.Grammar file) = unbuilt_fair world (AsksDeep (script.Given (command.Grammar file)))
 is_fair setting world (command.Rules body) = unbuilt_fair world (AsksDeep (script.Given (command.Rules body)))
@@ -231,7 +234,7 @@ pub tells_gained : (setting : Setting) (world : World) (given : Command) → Tel
 tells_gained setting world (command.Registry file) = plain_tells (registering setting world file) world (LoadsBehind (registry_front world) file) refl (λ new answer other a. none_told answer _ other a.says)
 tells_gained setting world (command.Text name body) = plain_tells (texting world name body) world LoadsNone refl (λ new answer other a. none_told answer _ other a.says)
 tells_gained setting world (command.Add name file) = plain_tells (adding world name file) world (LoadsBehind (name_checks world.held name) file) refl (λ new answer other a. none_told answer _ other a.says)
-tells_gained setting world (command.Generate name seed tokens) = unbuilt_tells world
+tells_gained setting world (command.Generate name seed tokens) = plain_tells (generating world name seed tokens) world LoadsNone refl (λ new answer other a. none_told answer _ other a.says)
 tells_gained setting world (command.Asks ask) = asking_tells (scene_of setting world.held) world ask
 tells_gained setting world (command.Grammar file) = unbuilt_tells world
 tells_gained setting world (command.Rules body) = unbuilt_tells world

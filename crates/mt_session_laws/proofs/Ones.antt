@@ -15,6 +15,7 @@ use Rattle.mt_vertical.specs.TextLaws as text
 use Rattle.mt_registry.specs.RegistryLaws as registry
 use Rattle.mt_script_spec.specs.Commands as command
 use Rattle.mt_script_spec.specs.Commands.{Ask, Command}
+use Rattle.mt_generate_spec.specs.Verticals.{generated_vertical}
 use Rattle.mt_session_spec.specs.World.{World, Held, ValidHeld, with_text, corpus_of}
 use Rattle.mt_session_spec.specs.Scenes.{Scene, scene_of}
 use Rattle.mt_session_spec.specs.Patterns.{IsWhole, IsFirstBad}
@@ -236,7 +237,7 @@ pub has_one : (laws : Readings) (setting : Setting) (world : World) (given : Com
 has_one laws setting world (command.Registry file) valid = registry_one laws setting world file
 has_one laws setting world (command.Text name body) valid = text_one laws world name body valid.registry
 has_one laws setting world (command.Add name file) valid = add_one laws world name file valid.registry
-has_one laws setting world (command.Generate name seed tokens) valid = unbuilt_one world
+has_one laws setting world (command.Generate name seed tokens) valid = text_one laws world name (generated_vertical name seed tokens) valid.registry
 has_one laws setting world (command.Asks ask) valid = ask_one (question (scene_of setting world.held) ask) world (question_one laws (scene_of setting world.held) ask)
 has_one laws setting world (command.Grammar file) valid = unbuilt_one world
 has_one laws setting world (command.Rules body) valid = unbuilt_one world

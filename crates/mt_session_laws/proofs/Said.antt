@@ -3,7 +3,7 @@ use Rattle.std.proofs.Common.{◌≡◌, ℕ, Bool, List}
 use Rattle.std.specs.List.{All}
 use Rattle.std.proofs.lemmas.List.Elements.{All-nil, All-cons}
 use Rattle.mt_text_spec.specs.Words.{IsName}
-use Rattle.mt_script_spec.specs.Commands.{Command, Text, Add, Batch, Header, Lone, TextHead, RulesHead, BatchHead, HasForm, WithBody, HasLoneForm}
+use Rattle.mt_script_spec.specs.Commands.{Command, Text, Add, Generate, Batch, Header, Lone, TextHead, RulesHead, BatchHead, HasForm, WithBody, HasLoneForm}
 use Rattle.mt_script_spec.specs.Script.{Item, Whole, Commanded, Refused, Broken, Begins, Nothing, Skips, Then}
 use Rattle.mt_session_spec.specs.Steps.{IsSaid}
 use Rattle.mt_session_spec.specs.Laws.{IsSaidItem}
@@ -26,6 +26,15 @@ add_named name file line given (BatchHead number merge) form with = let e : Add 
 
 pub add_name : (name file : List ℕ) → IsSaid (Add name file) → IsName name
 add_name name file said = add_named name file said.line said.body said.header said.good.form said.with_body
+
+generate_named : (name : List ℕ) (seed tokens : ℕ) (line given : List ℕ) (header : Header) → HasForm header line → WithBody header given (Generate name seed tokens) → IsName name
+generate_named name seed tokens line given (Lone command) form with = (rw (← with) at form).named
+generate_named name seed tokens line given (TextHead other number) form with = let f : ⊥ = cc in absurd f
+generate_named name seed tokens line given (RulesHead number) form with = let f : ⊥ = cc in absurd f
+generate_named name seed tokens line given (BatchHead number merge) form with = let e : Generate name seed tokens ≡ Batch with.asked merge = with.is in let f : ⊥ = cc in absurd f
+
+pub generate_name : (name : List ℕ) (seed tokens : ℕ) → IsSaid (Generate name seed tokens) → IsName name
+generate_name name seed tokens said = generate_named name seed tokens said.line said.body said.header said.good.form said.with_body
 
 -- ## Items of a script
 

@@ -7,6 +7,7 @@ use Rattle.mt_match_laws.specs.Laws.{HaveSpans}
 use Rattle.mt_shelf_spec.specs.Files.{Files}
 use Rattle.mt_script_spec.specs.Commands as command
 use Rattle.mt_script_spec.specs.Commands.{Ask, Command}
+use Rattle.mt_generate_spec.specs.Verticals.{generated_vertical}
 use Rattle.mt_session_spec.specs.World.{World, Holds}
 use Rattle.mt_session_spec.specs.Settings.{Setting, mapper_names}
 use Rattle.mt_session_spec.specs.Scenes.{Scene, scene_of}
@@ -124,7 +125,8 @@ pub has_some : (laws : QueryReadings) (setting : Setting) (world : World) (given
 has_some laws setting world (command.Registry file) = registry_some setting world file
 has_some laws setting world (command.Text name body) = λ none k. text_some world name body (λ bytes. bytes ≡ body) refl none.1 k
 has_some laws setting world (command.Add name file) = add_some world name file
-has_some laws setting world (command.Generate name seed tokens) = unbuilt_some world
+has_some laws setting world (command.Generate name seed tokens) = λ none k.
+    text_some world name (generated_vertical name seed tokens) (λ bytes. bytes ≡ generated_vertical name seed tokens) refl none.1 k
 has_some laws setting world (command.Asks ask) = ask_some (question (scene_of setting world.held) ask) world (question_some laws (scene_of setting world.held) ask)
 has_some laws setting world (command.Grammar file) = unbuilt_some world
 has_some laws setting world (command.Rules body) = unbuilt_some world

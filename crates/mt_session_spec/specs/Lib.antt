@@ -10,6 +10,7 @@ pub mod Files
 pub mod Meaning
 pub mod Registering
 pub mod Adding
+pub mod Generating
 pub mod Asking
 pub mod Counting
 pub mod Querying

@@ -6,6 +6,7 @@ use Rattle.mt_session_spec.specs.Scenes.{Scene, scene_of}
 use Rattle.mt_session_spec.specs.Meaning.{Meaning, Question, unbuilt, unbuilt_question, asking}
 use Rattle.mt_session_spec.specs.Registering.{registering}
 use Rattle.mt_session_spec.specs.Adding.{texting, adding}
+use Rattle.mt_session_spec.specs.Generating.{generating}
 use Rattle.mt_session_spec.specs.Counting.{counting}
 use Rattle.mt_session_spec.specs.Querying.{querying}
 use Rattle.mt_session_spec.specs.Listing.{listing}
@@ -26,7 +27,7 @@ abbrev pub meaning : Setting → World → Command → Meaning
 meaning setting world (Registry file) = registering setting world file
 meaning setting world (Text name body) = texting world name body
 meaning setting world (Add name file) = adding world name file
-meaning setting world (Generate name seed tokens) = unbuilt world
+meaning setting world (Generate name seed tokens) = generating world name seed tokens
 meaning setting world (Asks ask) = asking (question (scene_of setting world.held) ask) world
 meaning setting world (Grammar file) = unbuilt world
 meaning setting world (Rules body) = unbuilt world

@@ -1,7 +1,7 @@
 -- A refused command changes nothing, and one that names a text has a name for it.
 use Rattle.std.proofs.Common.{◌≡◌, ℕ, List, refl, sym, ◌∙◌, ap, subst}
 use Rattle.mt_text_spec.specs.Words.{IsName}
-use Rattle.mt_script_spec.specs.Commands.{Command, Text, Add, Header, Lone, TextHead, RulesHead, BatchHead, HasForm, HasLoneForm, WithBody}
+use Rattle.mt_script_spec.specs.Commands.{Command, Text, Add, Generate, Header, Lone, TextHead, RulesHead, BatchHead, HasForm, HasLoneForm, WithBody}
 use Rattle.mt_session_spec.specs.World.{Held, ValidHeld}
 use Rattle.mt_session_spec.specs.Settings.{Setting}
 use Rattle.mt_session_spec.specs.Refusals.{no_memory_line}
@@ -35,11 +35,13 @@ keeps_refused {setting = setting} law held new command reply start end valid sai
 abbrev pub NamesText : Command → Type 0
 NamesText (Text name body) = IsName name
 NamesText (Add name file) = IsName name
+NamesText (Generate name seed tokens) = IsName name
 NamesText command = Unit {0}
 
 lone_names : (command : Command) (line : List ℕ) → HasLoneForm command line → NamesText command
 lone_names (Text name body) line form = absurd form
 lone_names (Add name file) line form = form.named
+lone_names (Generate name seed tokens) line form = form.named
 lone_names command line form = tt
 
 form_names : (header : Header) (line body : List ℕ) (command : Command) → HasForm header line → WithBody header body command → NamesText command

@@ -4,6 +4,7 @@ pub mod Fetches
 pub mod Keeping
 pub mod Unbuilt
 pub mod Adding
+pub mod Generating
 pub mod Removing
 pub mod Dropping
 pub mod Registering

@@ -60,26 +60,26 @@ unbuilt_says : (world : World) (reply : Reply) → Given (answers.Refused (refus
 unbuilt_says world reply g = declined (unbuilt world) world none_gained BadCommand reply (inl (record { is = refl; there = tt })) Starved g
 
 pub unbuilt_command : (setting : Setting) (held : Held) (given : RustCommand) (reply : Reply) → ((file : List ℕ) → given ≡ command.Registry file → ⊥) → ((name body : List ℕ) → given ≡ command.Text name body → ⊥) →
-    ((name file : List ℕ) → given ≡ command.Add name file → ⊥) → ((asked : RustAsk) → given ≡ command.Ask asked → ⊥) → (given ≡ command.Segments → ⊥) → ((name : List ℕ) → given ≡ command.Remove name → ⊥) → (given ≡ command.Quit → ⊥) →
+    ((name file : List ℕ) → given ≡ command.Add name file → ⊥) → ((name : List ℕ) (seed tokens : ℕ) → given ≡ command.Generate name seed tokens → ⊥) → ((asked : RustAsk) → given ≡ command.Ask asked → ⊥) → (given ≡ command.Segments → ⊥) → ((name : List ℕ) → given ≡ command.Remove name → ⊥) → (given ≡ command.Quit → ⊥) →
     Given (answers.Refused (refusal_line BadCommand)) reply → AnswersAlone setting held (command_of given) reply held
-unbuilt_command setting held (command.Registry file) reply r t a q l m s g files = absurd (r file refl)
-unbuilt_command setting held (command.Text name body) reply r t a q l m s g files = absurd (t name body refl)
-unbuilt_command setting held (command.Add name file) reply r t a q l m s g files = absurd (a name file refl)
-unbuilt_command setting held (command.Ask asked) reply r t a q l m s g files = absurd (q asked refl)
-unbuilt_command setting held command.Segments reply r t a q l m s g files = absurd (l refl)
-unbuilt_command setting held command.Quit reply r t a q l m s g files = absurd (s refl)
-unbuilt_command setting held (command.Generate name seed tokens) reply r t a q l m s g files = unbuilt_says (over held files) reply g
-unbuilt_command setting held (command.Grammar file) reply r t a q l m s g files = unbuilt_says (over held files) reply g
-unbuilt_command setting held (command.Rules body) reply r t a q l m s g files = unbuilt_says (over held files) reply g
-unbuilt_command setting held (command.Merge first last) reply r t a q l m s g files = unbuilt_says (over held files) reply g
-unbuilt_command setting held (command.Batch lines merge) reply r t a q l m s g files = unbuilt_says (over held files) reply g
-unbuilt_command setting held (command.Save name) reply r t a q l m s g files = unbuilt_says (over held files) reply g
-unbuilt_command setting held (command.Load name) reply r t a q l m s g files = unbuilt_says (over held files) reply g
-unbuilt_command setting held (command.Remove name) reply r t a q l m s g files = absurd (m name refl)
-unbuilt_command setting held (command.Subcorpus name cql) reply r t a q l m s g files = unbuilt_says (over held files) reply g
-unbuilt_command setting held (command.Subcount name cql) reply r t a q l m s g files = unbuilt_says (over held files) reply g
-unbuilt_command setting held (command.Keywords name attr rarity most) reply r t a q l m s g files = unbuilt_says (over held files) reply g
-unbuilt_command setting held (command.Partner name kind) reply r t a q l m s g files = unbuilt_says (over held files) reply g
+unbuilt_command setting held (command.Registry file) reply r t a n q l m s g files = absurd (r file refl)
+unbuilt_command setting held (command.Text name body) reply r t a n q l m s g files = absurd (t name body refl)
+unbuilt_command setting held (command.Add name file) reply r t a n q l m s g files = absurd (a name file refl)
+unbuilt_command setting held (command.Ask asked) reply r t a n q l m s g files = absurd (q asked refl)
+unbuilt_command setting held command.Segments reply r t a n q l m s g files = absurd (l refl)
+unbuilt_command setting held command.Quit reply r t a n q l m s g files = absurd (s refl)
+unbuilt_command setting held (command.Generate name seed tokens) reply r t a n q l m s g files = absurd (n name seed tokens refl)
+unbuilt_command setting held (command.Grammar file) reply r t a n q l m s g files = unbuilt_says (over held files) reply g
+unbuilt_command setting held (command.Rules body) reply r t a n q l m s g files = unbuilt_says (over held files) reply g
+unbuilt_command setting held (command.Merge first last) reply r t a n q l m s g files = unbuilt_says (over held files) reply g
+unbuilt_command setting held (command.Batch lines merge) reply r t a n q l m s g files = unbuilt_says (over held files) reply g
+unbuilt_command setting held (command.Save name) reply r t a n q l m s g files = unbuilt_says (over held files) reply g
+unbuilt_command setting held (command.Load name) reply r t a n q l m s g files = unbuilt_says (over held files) reply g
+unbuilt_command setting held (command.Remove name) reply r t a n q l m s g files = absurd (m name refl)
+unbuilt_command setting held (command.Subcorpus name cql) reply r t a n q l m s g files = unbuilt_says (over held files) reply g
+unbuilt_command setting held (command.Subcount name cql) reply r t a n q l m s g files = unbuilt_says (over held files) reply g
+unbuilt_command setting held (command.Keywords name attr rarity most) reply r t a n q l m s g files = unbuilt_says (over held files) reply g
+unbuilt_command setting held (command.Partner name kind) reply r t a n q l m s g files = unbuilt_says (over held files) reply g
 
 -- ## `quit`
 

@@ -74,6 +74,9 @@ impl<M: Mapper> Session<M> {
             Command::Add { name, file } => {
                 self.state.add_file(&name, &file, &mut self.mappers, edge)
             }
+            Command::Generate { name, seed, tokens } => {
+                self.state.generate(&name, seed, tokens, &mut self.mappers)
+            }
             Command::Ask(ask) => self.state.answer(&ask, shop),
             Command::Segments => self.state.segments(),
             Command::Remove { name } => self.state.remove(&name),

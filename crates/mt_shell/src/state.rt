@@ -10,6 +10,7 @@ ghost use Rattle.mt_shell.specs.Serves.{first_kept};
 ghost use Rattle.mt_shell.specs.Answers.{AnswersBeside};
 
 mod adding;
+mod generating;
 mod listing;
 mod registering;
 mod removing;

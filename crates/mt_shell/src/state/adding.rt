@@ -90,7 +90,12 @@ impl State {
     }
 
     /// Reads the text that these bytes are, and keeps it.
-    fn read_text<M: Mapper>(&mut self, name: &Value, bytes: &[u8], mappers: &mut Vec<M>) -> Reply
+    pub(super) fn read_text<M: Mapper>(
+        &mut self,
+        name: &Value,
+        bytes: &[u8],
+        mappers: &mut Vec<M>,
+    ) -> Reply
         ghost setting: { Setting }
         requires named { IsName name.now }
         requires free { Holds self.old.held name.now → ⊥ }

@@ -1,5 +1,5 @@
 use Rattle.std.proofs.Common.{refl}
-use Rattle.mt_script_spec.specs.Commands.{Registry, Text, Add, Asks, Segments, Remove, Quit}
+use Rattle.mt_script_spec.specs.Commands.{Registry, Text, Add, Generate, Asks, Segments, Remove, Quit}
 use Rattle.mt_script.specs.Seen.{ask_of, command_of}
 use Rattle.mt_shell.specs.Outsides.{beside}
 use Rattle.mt_shell.proofs.Meanings.{steps_alone, steps_beside}
@@ -32,6 +32,19 @@ returns-in-Add-clause-refused g c =
     keeps_refused {setting = g.setting} c.refused_keep.ensures c.args.self.now.state.held c.add_file.new.self.held (Add c.in-Add.name c.in-Add.file) c.add_file.result _ _ c.valid.ensures (rw c.in-Add.is at c.requires.1.1.1.1.1.0)
     (c.add_file.ensures.means (g.P.PatternShop.refused c.args.shop.now))
 
+pub generate-requires-send-M : goal.generate-requires-send-M
+generate-requires-send-M g c = λ κs h. (
+  h,
+  (c.requires.1.1.1.1.0, (said_names (Generate c.in-Generate.name c.in-Generate.seed c.in-Generate.tokens) (rw c.in-Generate.is at c.requires.1.1.1.1.1.0), c.requires.1.1.1.1.1.1)),
+)
+
+pub returns-in-Generate-clause-refused : goal.returns-in-Generate-clause-refused
+returns-in-Generate-clause-refused g c =
+    let start = beside (g.E.Edge.seen c.args.edge.now) (g.P.PatternShop.refused c.args.shop.now) in
+    let asked = Generate c.in-Generate.name c.in-Generate.seed c.in-Generate.tokens in
+    keeps_refused {setting = g.setting} c.refused_keep.ensures c.args.self.now.state.held c.generate.new.self.held asked c.generate.result start start c.valid.ensures (rw c.in-Generate.is at c.requires.1.1.1.1.1.0)
+    (steps_alone g.setting c.args.self.now.state.held c.generate.new.self.held asked c.generate.result start c.generate.ensures.means)
+
 pub returns-in-Remove-clause-refused : goal.returns-in-Remove-clause-refused
 returns-in-Remove-clause-refused g c =
     let start = beside (g.E.Edge.seen c.args.edge.now) (g.P.PatternShop.refused c.args.shop.now) in
@@ -45,6 +58,11 @@ returns-in-Text-clause-means g c =
 
 pub returns-in-Add-clause-means : goal.returns-in-Add-clause-means
 returns-in-Add-clause-means g c = rw c.in-Add.is (c.add_file.ensures.means (g.P.PatternShop.refused c.args.shop.now))
+
+pub returns-in-Generate-clause-means : goal.returns-in-Generate-clause-means
+returns-in-Generate-clause-means g c =
+    rw c.in-Generate.is (steps_alone g.setting c.args.self.now.state.held c.generate.new.self.held (Generate c.in-Generate.name c.in-Generate.seed c.in-Generate.tokens) c.generate.result
+    (beside (g.E.Edge.seen c.args.edge.now) (g.P.PatternShop.refused c.args.shop.now)) c.generate.ensures.means)
 
 pub returns-in-Ask-clause-means : goal.returns-in-Ask-clause-means
 returns-in-Ask-clause-means g c = rw c.in-Ask.is (steps_beside g.setting c.args.self.now.state.held c.args.self.now.state.held (Asks (ask_of c.in-Ask.ask)) c.answer.result (g.E.Edge.seen c.args.edge.now) _ _ c.answer.ensures)
@@ -65,7 +83,7 @@ returns-in-Quit-clause-means g c =
 pub returns-clause-means : goal.returns-clause-means
 returns-clause-means g c =
     steps_alone g.setting c.args.self.now.state.held c.args.self.now.state.held (command_of c.args.command) c.refused.result (beside (g.E.Edge.seen c.args.edge.now) (g.P.PatternShop.refused c.args.shop.now))
-    (unbuilt_command g.setting c.args.self.now.state.held c.args.command c.refused.result c.in_default.not-Registry c.in_default.not-Text c.in_default.not-Add c.in_default.not-Ask c.in_default.not-Segments c.in_default.not-Remove c.in_default.not-Quit c.refused.ensures)
+    (unbuilt_command g.setting c.args.self.now.state.held c.args.command c.refused.result c.in_default.not-Registry c.in_default.not-Text c.in_default.not-Add c.in_default.not-Generate c.in_default.not-Ask c.in_default.not-Segments c.in_default.not-Remove c.in_default.not-Quit c.refused.ensures)
 
 pub returns-clause-refused : goal.returns-clause-refused
 returns-clause-refused g c = λ h. refl

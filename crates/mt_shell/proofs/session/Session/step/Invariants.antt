@@ -9,6 +9,9 @@ ghost-add_text g a = g.setting
 abbrev pub ghost-add_file : goal.ghost-add_file
 ghost-add_file g a = g.setting
 
+abbrev pub ghost-generate : goal.ghost-generate
+ghost-generate g a = g.setting
+
 abbrev pub ghost-answer : goal.ghost-answer
 ghost-answer g a = g.setting
 

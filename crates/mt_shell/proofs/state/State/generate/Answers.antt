@@ -1,0 +1,21 @@
+use Rattle.std.proofs.Common.{rules}
+use Rattle.std.proofs.Common.{refl, subst}
+use Rattle.mt_session_spec.specs.World.{ValidHeld}
+use Rattle.mt_shell.specs.Serves.{Kept}
+use Rattle.mt_shell.proofs.Generating.{generate_taken, generate_starved, generate_read}
+use Rattle.mt_shell.proofs.Meanings.{not_true}
+use Rattle.mt_shell.proofs.state.State.generate.Goals as goal
+
+pub returns-then-holds-clause-means : goal.returns-then-holds-clause-means
+returns-then-holds-clause-means g c = generate_taken g.setting c.args.self.now.held c.args.name.now c.args.seed c.args.tokens c.refused.result (c.if-holds.ensures.0 refl) (rw c.as_str.ensures at c.refused.ensures)
+
+pub returns-in_default-clause-means : goal.returns-in_default-clause-means
+returns-in_default-clause-means g c = generate_starved g.setting c.args.self.now.held c.args.name.now c.args.seed c.args.tokens
+
+pub returns-clause-means : goal.returns-clause-means
+returns-clause-means g c =
+    generate_read (record { one_text = c.one_text.ensures; no_fault = c.no_text_with_fault.ensures }) g.setting c.args.self.now.held c.read_text.new.self.held c.args.name.now c.args.seed c.args.tokens c.as_slice.result.now c.read_text.result
+    (subst (λ (k : Kept). ValidHeld k.held) c.self.view_is c.self.invariant).registry (λ h. not_true (c.if-holds.ensures.1 h)) (rw c.as_slice.ensures (rw c.as_str-2.ensures at c.in-Ok.ensures)) c.read_text.ensures.means
+
+pub read_text-requires-send-M : goal.read_text-requires-send-M
+read_text-requires-send-M g c = λ κs h. (h, (c.requires.1.0, search rules))
