@@ -8,13 +8,13 @@ use mt_base::List;
 
 /// A segment, and how many live texts the segments before it have.
 #[derive(Clone, Copy, Debug, Drop)]
-pub(crate) struct Cursor {
-    pub(crate) segment: usize,
-    pub(crate) before: u32,
+pub struct Cursor {
+    pub segment: usize,
+    pub before: u32,
 }
 
 /// At the first segment.
-pub(crate) fn first() -> Cursor
+pub fn first() -> Cursor
     ensures segment { result.segment ≡ 0 }
     ensures before { result.before ≡ 0 }
 {
@@ -32,7 +32,7 @@ fn start(last: Cursor, text: u32) -> Cursor
 }
 
 /// The segment of the live text with this number. From one text to a later one only the segments between them are passed.
-pub(crate) fn seek(live: &[List<u32>], last: Cursor, text: u32) -> Cursor
+pub fn seek(live: &[List<u32>], last: Cursor, text: u32) -> Cursor
     requires last { IsAt live.now last.segment last.before }
     requires text { text < texts_of live.now }
     ensures { Stands live.now text result.segment result.before }

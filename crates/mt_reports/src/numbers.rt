@@ -9,7 +9,7 @@ use std::marker::Brand;
 use std::sync::ledger::{Blank, Ledger};
 
 /// The number of an attribute's value at a place of a segment.
-pub(crate) fn number_of(segment: &Segment, attr: u16, place: u32) -> u32
+pub fn number_of(segment: &Segment, attr: u16, place: u32) -> u32
     requires attr { attr < length segment.now.attrs }
     requires place { place < token_count segment.now }
     ensures number { result ≡ number_at segment.now attr place }

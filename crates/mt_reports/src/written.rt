@@ -7,7 +7,7 @@ use itoa::Buffer;
 use mt_base::{List, NoMemory};
 
 /// Appends a byte and a number. Without memory the byte may be there.
-pub(crate) fn put_number(mark: u8, number: u32, out: &mut List<u8>) -> Result<(), NoMemory>
+pub fn put_number(mark: u8, number: u32, out: &mut List<u8>) -> Result<(), NoMemory>
     ensures ok { OnOk result (out.new ≡ out.old ++ mark ∷ decimal number) }
     ensures err { OnErr result (take (length out.old) out.new ≡ out.old) }
 {
