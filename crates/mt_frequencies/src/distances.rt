@@ -1,0 +1,91 @@
+//! How far from a span values are looked at.
+
+ghost use Rattle.std.specs.Prelude.{◌≡◌, ◌+◌, ◌-◌, ◌^◌, ◌<◌, ◌≤◌, [], ◌∷◌, ◌++◌};
+ghost use Rattle.std.specs.List.{range_with_len};
+ghost use Rattle.mt_frequencies.specs.Distances.{AreDistances, distances_of, near_of};
+ghost use Rattle.mt_report_spec.specs.Near.{last_token, places_at};
+
+use mt_base::Span;
+
+/// Distances before a span's first token, from one on and before another, and distances behind a token of it, likewise.
+#[derive(Clone, Copy, Debug, Drop)]
+pub(crate) struct Distances {
+    pub(crate) before_from: u32,
+    pub(crate) before_to: u32,
+    pub(crate) behind_from: u32,
+    pub(crate) behind_to: u32,
+}
+
+/// Two runs of places, each from a place on and before another.
+#[derive(Clone, Copy, Debug, Drop)]
+pub(crate) struct Places {
+    pub(crate) before_from: u32,
+    pub(crate) before_to: u32,
+    pub(crate) behind_from: u32,
+    pub(crate) behind_to: u32,
+}
+
+/// What is looked at near a span: the values of an attribute so far before its first token, and so far behind its last one, or behind its first one too.
+#[derive(Clone, Copy, Debug, Drop)]
+pub(crate) struct Near {
+    pub(crate) attr: u16,
+    pub(crate) distances: Distances,
+    pub(crate) behind_last: bool,
+}
+
+impl Near {
+    /// The token from which distances to the right count.
+    pub(crate) fn last(&self, span: &Span) -> u32
+        requires { span.now.begin < span.now.end }
+        ensures { result ≡ last_token (near_of self.now) span.now }
+    {
+        if self.behind_last {
+            span.end() - 1
+        } else {
+            span.begin()
+        }
+    }
+}
+
+/// The one distance, before the span's first token where it is negative.
+pub(crate) fn at(distance: i32) -> Distances
+    ensures distances { distances_of result ≡ distance ∷ [] }
+    ensures valid { AreDistances result }
+{
+    let size = distance.unsigned_abs();
+    if distance < 0 {
+        Distances {
+            before_from: size,
+            before_to: size + 1,
+            behind_from: 1,
+            behind_to: 1,
+        }
+    } else {
+        Distances {
+            before_from: 1,
+            before_to: 1,
+            behind_from: size,
+            behind_to: size + 1,
+        }
+    }
+}
+
+impl Distances {
+    /// The places of a text of so many tokens that are so far before one place and behind another.
+    pub(crate) fn places(&self, first: u32, last: u32, tokens: u32) -> Places
+        requires distances { AreDistances self.now }
+        requires first { first ≤ tokens }
+        ensures places { places_at tokens first last (distances_of self.now) ≡ range_with_len result.before_from (result.before_to - result.before_from) ++ range_with_len result.behind_from (result.behind_to - result.behind_from) }
+        ensures before { result.before_from ≤ result.before_to }
+        ensures before_within { result.before_to ≤ tokens }
+        ensures behind { result.behind_from ≤ result.behind_to }
+        ensures behind_within { result.behind_to ≤ tokens }
+    {
+        Places {
+            before_from: first.saturating_sub(self.before_to - 1),
+            before_to: first.saturating_sub(self.before_from - 1),
+            behind_from: last.saturating_add(self.behind_from).min(tokens),
+            behind_to: last.saturating_add(self.behind_to).min(tokens),
+        }
+    }
+}

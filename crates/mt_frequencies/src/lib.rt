@@ -1,0 +1,15 @@
+//! How often each value stands near the spans of a query: frequency lists over a corpus in segments.
+//!
+//! Spans are numbered among the live texts of all segments, in order. Beside the segments stand, for each of them, the ascending numbers of its live texts.
+//! Values are counted by their numbers. Contracts speak of the texts for which the segments stand (`StandFor` of `mt_report_spec`).
+#![tactic(auto)]
+
+mod counting;
+mod distances;
+mod entry;
+mod frequencies;
+mod lines;
+mod spans;
+mod tally;
+
+pub use frequencies::frequency;
