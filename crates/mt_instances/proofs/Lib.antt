@@ -1,0 +1,14 @@
+pub mod Distinct
+pub mod Exact
+pub mod Growing
+pub mod Mapped
+pub mod Splitting
+pub mod Gaining
+pub mod Filling
+pub mod Known
+pub mod ByKind
+pub mod Heading
+pub mod Adding
+pub mod Tallying
+pub mod Settling
+pub mod Lines

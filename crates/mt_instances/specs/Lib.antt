@@ -1,0 +1,11 @@
+pub mod Members
+pub mod Named
+pub mod Numbers
+pub mod Filled
+pub mod Gains
+pub mod Given
+pub mod Entries
+pub mod Gathered
+pub mod Counting
+pub mod Collected
+pub mod Laws

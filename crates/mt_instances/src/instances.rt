@@ -1,0 +1,109 @@
+//! The instances of a text that are known so far.
+
+ghost use Rattle.std.specs.Prelude.{◌≡◌, ◌<◌, [], ◌∷◌, ◌++◌, length, slice_get, Some, IfOk, OnOk, OnErr};
+ghost use Rattle.mt_count_spec.specs.Counts.{EachOnce};
+ghost use Rattle.mt_counts.specs.Names.{Begins};
+ghost use Rattle.mt_instances.specs.Members.{HaveSameItems};
+ghost use Rattle.mt_instances.specs.Entries.{instance_of};
+
+use crate::entry::{Entry, keep_distinct};
+use crate::names::Names;
+use mt_base::{NoMemory, Value};
+use std::alloc::Global;
+use std::marker::Model;
+
+/// Instances in the order in which they came, as entries under numbered names. It is seen as the list of the names and that of the instances.
+#[derive(Drop)]
+pub(crate) struct Instances {
+    names: Names,
+    entries: Vec<Entry>,
+}
+
+impl Model for Instances {
+    ghost use Rattle.std.specs.Prelude.{map, length};
+    ghost use Rattle.mt_instances.specs.Named.{Named};
+    ghost use Rattle.mt_instances.specs.Entries.{AreNamed, instance_of};
+
+    ghost Value = { Named };
+
+    ghost view = { λ s. record { names = s.names; given = map (instance_of s.names) s.entries.items } };
+
+    ghost invariant = { λ s. AreNamed (length s.names) s.entries.items };
+}
+
+impl Instances {
+    /// None, and no names. It takes no memory.
+    pub(crate) fn new(alloc: Global) -> Self
+        ensures names { result.names ≡ [] }
+        ensures given { result.given ≡ [] }
+    {
+        Instances {
+            names: Names::new(alloc),
+            entries: Vec::new(alloc),
+        }
+    }
+
+    /// The number of a name.
+    pub(crate) fn add_name(&mut self, alloc: Global, name: &Value) -> Result<u32, NoMemory>
+        ensures names { Begins self.old.names self.new.names }
+        ensures given { self.new.given ≡ self.old.given }
+        ensures number { IfOk result (λ number. slice_get self.new.names number ≡ Some name.now) }
+    {
+        self.names.add(alloc, name)
+    }
+
+    /// The name with this number.
+    pub(crate) fn name(&self, number: u32) -> &Value
+        requires { number < length self.now.names }
+        ensures { slice_get self.now.names number ≡ Some result.now }
+    {
+        self.names.get(number as usize)
+    }
+
+    /// Adds an instance, which may be there.
+    pub(crate) fn push(&mut self, entry: Entry) -> Result<(), NoMemory>
+        requires { entry.name < length self.old.names }
+        ensures names { self.new.names ≡ self.old.names }
+        ensures ok { OnOk result (self.new.given ≡ self.old.given ++ instance_of self.old.names entry ∷ []) }
+        ensures err { OnErr result (self.new.given ≡ self.old.given) }
+    {
+        match self.entries.push(entry) {
+            Ok(()) => Ok(()),
+            Err(_) => Err(NoMemory),
+        }
+    }
+
+    /// Keeps each instance once, in any order. It takes no memory.
+    pub(crate) fn settle(&mut self)
+        ensures names { self.new.names ≡ self.old.names }
+        ensures once { EachOnce self.new.given }
+        ensures same { HaveSameItems self.old.given self.new.given }
+    {
+        self.names.len();
+        keep_distinct(&mut self.entries);
+    }
+
+    /// How many there are.
+    pub(crate) fn len(&self) -> usize
+        ensures { result ≡ length self.now.given }
+    {
+        self.entries.len()
+    }
+
+    /// The entry at a place of the list.
+    pub(crate) fn get(&self, k: usize) -> Entry
+        requires { k < length self.now.given }
+        ensures named { result.name < length self.now.names }
+        ensures is { slice_get self.now.given k ≡ Some (instance_of self.now.names result) }
+    {
+        self.entries[k]
+    }
+
+    /// Takes all instances away, and keeps the names, and the memory for others.
+    pub(crate) fn clear(&mut self)
+        ensures names { self.new.names ≡ self.old.names }
+        ensures given { self.new.given ≡ [] }
+    {
+        self.entries.clear();
+    }
+}
