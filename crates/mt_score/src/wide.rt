@@ -1,6 +1,6 @@
 //! Scores of counts of any size.
 
-ghost use Rattle.std.specs.Prelude.{◌+◌, ◌*◌, ◌^◌, ◌<◌, ◌≤◌};
+ghost use Rattle.std.specs.Prelude.{◌*◌, ◌^◌, ◌<◌, ◌≤◌};
 ghost use Rattle.mt_sketch_spec.specs.Score.{IsScore};
 
 use super::dice::{last_within, log_dice};
@@ -8,18 +8,18 @@ use super::dice::{last_within, log_dice};
 /// Up to here `log_dice` takes the sum of two counts.
 const MOST_COMMON_SUM: u128 = 1 << 40;
 
-/// The score in sixteenths of two words that occur together `both` times, where the one occurs `left` and the other `right` times: logDice of twice `both` by `left`
-/// and `right` together. It takes no memory.
-pub fn score(both: u64, left: u64, right: u64) -> i32
-    requires positive { 1 ≤ both }
-    requires within { both < left + right }
-    ensures { IsScore (2 * both) (left + right) result }
+/// The score in sixteenths, as `log_dice` gives it, of counts of 64 bits: `two_f` is twice how often two words occur together, and `sum` is how often the one occurs and
+/// how often the other, added up. It takes no memory.
+pub fn score(two_f: u128, sum: u128) -> i32
+    requires positive { 1 ≤ two_f }
+    requires below_two { two_f < 2 * sum }
+    requires small { sum < 2 ^ 65 }
+    ensures { IsScore two_f sum result }
 {
-    let sum = u128::from(left) + u128::from(right);
     if sum <= MOST_COMMON_SUM {
-        log_dice(2 * both, sum as u64)
+        log_dice(two_f as u64, sum as u64)
     } else {
-        great_score(2 * u128::from(both), sum)
+        great_score(two_f, sum)
     }
 }
 
