@@ -1,26 +1,25 @@
 -- What follows of the definitions: a command has a meaning, and one only; it keeps the world valid, and changes nothing where it is refused; a script has one answer;
 -- what tells of a failure is licensed by a call that failed.
-use Rattle.std.specs.Prelude.{ℕ, suc, ◌≡◌, ◌≤◌, ◌||◌, Bool, false, List, [], ◌∷◌, length, slice_get, count_by, Some, Ok}
+use Rattle.std.specs.Prelude.{ℕ, suc, ◌≡◌, ◌≤◌, ◌||◌, Bool, false, List, [], ◌∷◌, length, slice_get, count_by, Some}
 use Rattle.std.specs.List.{All}
 use Rattle.std.specs.Str.{bytes_eq}
 use Rattle.mt_text_spec.specs.Registries.{Registry, ValidRegistry}
 use Rattle.mt_text_spec.specs.Texts.{Text, ValidText}
-use Rattle.mt_text_spec.specs.Queries.{Query as QueryOf}
-use Rattle.mt_query_spec.specs.Verdicts.{Means}
-use Rattle.mt_query_spec.specs.Contents.{patterns}
+use Rattle.mt_text_spec.specs.Queries.{Grammar}
+use Rattle.mt_grammar_spec.specs.ValidGrammar.{ValidGrammar}
 use Rattle.mt_pattern_spec.specs.Patterns.{wrapped}
 use Rattle.mt_script_spec.specs.Commands.{Ask, Command}
 use Rattle.mt_script_spec.specs.Script.{Item, Given, Bad, CutShort, Begins}
 use Rattle.mt_shelf_spec.specs.Files.{Files}
-use Rattle.mt_session_spec.specs.World.{Held, World, ValidHeld, Holds, IsFull, corpus_of, with_text, without_text, first_held}
+use Rattle.mt_session_spec.specs.World.{Held, World, ValidHeld, Holds, IsFull, corpus_of, with_text, without_text, with_grammar, first_held}
 use Rattle.mt_session_spec.specs.Settings.{Setting}
 use Rattle.mt_session_spec.specs.Scenes.{scene_of}
-use Rattle.mt_session_spec.specs.Gains.{Gained, none_gained}
+use Rattle.mt_session_spec.specs.Gains.{Gained, none_gained, gained_then}
 use Rattle.mt_session_spec.specs.Refusals.{failure_line, pattern_refused_line}
 use Rattle.mt_session_spec.specs.Answers.{Answer, Refused, Lines, Last}
 use Rattle.mt_session_spec.specs.Registering.{with_registry}
 use Rattle.mt_session_spec.specs.Steps.{IsSaid, Fine, Step, AskStep}
-use Rattle.mt_session_spec.specs.Replies.{Known, Replies, AreAnswers, NoneStarved, NoneDeep, asked_cql}
+use Rattle.mt_session_spec.specs.Replies.{Known, KnownStep, Replies, AreAnswers, NoneStarved, AsksFor, NoneDeep}
 use Rattle.mt_session_spec.specs.Runs.{AreTheAnswers}
 
 -- ## One command
@@ -47,13 +46,14 @@ RefusedKeep = (setting : Setting) (world : World) (command : Command) (gained : 
 
 -- ## What is held
 
--- at first, with another text, without one and with another registry it is valid
+-- at first, with another text, without one, with another registry and with another grammar it is valid
 pub record HeldIsValid : Type 0 where
   pub first : ValidHeld first_held
   pub text : (held : Held) (text : Text) → ValidHeld held → ValidText held.registry text → (Holds held text.name → ⊥) → (IsFull held.groups (length text.tokens) → ⊥) →
       ValidHeld (with_text held text)
   pub without : (held : Held) (name : List ℕ) → ValidHeld held → ValidHeld (without_text held name)
   pub registry : (held : Held) (registry : Registry) → ValidRegistry registry → ValidHeld (with_registry held registry)
+  pub grammar : (held : Held) (grammar : Grammar) → ValidHeld held → ValidGrammar held.registry grammar → ValidHeld (with_grammar held grammar)
 
 -- ## Questions
 
@@ -88,7 +88,7 @@ OneAnswers = (setting : Setting) (items : List Item) (world : World) → ValidHe
 -- nests too deep.
 abbrev pub RepliesAreAnswers : Type 0
 RepliesAreAnswers = (setting : Setting) (items : List Item) (files : Files) (answers : List Answer) (last : Known) → All IsSaidItem items →
-    Replies setting items (record { held = first_held; files = Some files }) none_gained answers last → NoneStarved answers → NoneDeep items →
+    Replies setting items (record { held = first_held; files = Some files }) none_gained answers last → NoneStarved answers → NoneDeep setting items (record { held = first_held; files = files }) →
     AreTheAnswers setting items files answers
 
 -- ## Failures
@@ -108,26 +108,25 @@ abbrev pub FailuresAreGained : Type 0
 FailuresAreGained = (setting : Setting) (items : List Item) (known : Known) (gained : Gained) (answers : List Answer) (last : Known) → Replies setting items known gained answers last →
     (file : List ℕ) → told_failures file answers ≤ count_by (λ name. bytes_eq name file) gained.failed
 
--- an answer tells that this pattern was refused: it is the one with the number that is told, of a query that the item asks
-pub record TellsRefusal (pattern : List ℕ) (item : Item) (answer : Answer) : Type 0 where
-  pub cql : List ℕ
-  pub asks : asked_cql item ≡ Some cql
-  pub registry : Registry
-  pub query : QueryOf
-  pub read : Means registry 0 cql (Ok query)
+-- an answer tells that this pattern was refused: it is the one with the number that is told, among those for which the item asks in this world
+pub record TellsRefusal (pattern : List ℕ) (world : World) (item : Item) (answer : Answer) : Type 0 where
+  pub texts : List (List ℕ)
+  pub asked : AsksFor world item texts
   pub number : ℕ
-  pub there : slice_get (patterns query) number ≡ Some pattern
+  pub there : slice_get texts number ≡ Some pattern
   pub told : answer ≡ Refused (pattern_refused_line (suc number))
 
--- so many of these answers tell it
-pub data TellRefusals (pattern : List ℕ) : List Item → List Answer → ℕ → Type 0 where
-  NoneTells : TellRefusals pattern [] [] 0
-  OneTells : (item : Item) (items : List Item) (answer : Answer) (answers : List Answer) (count : ℕ) → TellsRefusal pattern item answer → TellRefusals pattern items answers count →
-      TellRefusals pattern (item ∷ items) (answer ∷ answers) (suc count)
-  OneTellsNot : (item : Item) (items : List Item) (answer : Answer) (answers : List Answer) (count : ℕ) → TellRefusals pattern items answers count →
-      TellRefusals pattern (item ∷ items) (answer ∷ answers) count
+-- these are replies to the items, as many of which tell it
+pub data TellRefusals (setting : Setting) (pattern : List ℕ) : List Item → Known → Gained → List Answer → ℕ → Type 0 where
+  NoneTells : (known : Known) → TellRefusals setting pattern [] known none_gained [] 0
+  OneTells : (item : Item) (items : List Item) (known next : Known) (here later : Gained) (answer : Answer) (answers : List Answer) (count : ℕ) →
+      (step : KnownStep setting known item here next answer) → TellsRefusal pattern step.world item answer → TellRefusals setting pattern items next later answers count →
+      TellRefusals setting pattern (item ∷ items) known (gained_then here later) (answer ∷ answers) (suc count)
+  OneTellsNot : (item : Item) (items : List Item) (known next : Known) (here later : Gained) (answer : Answer) (answers : List Answer) (count : ℕ) →
+      KnownStep setting known item here next answer → TellRefusals setting pattern items next later answers count →
+      TellRefusals setting pattern (item ∷ items) known (gained_then here later) (answer ∷ answers) count
 
 -- they are at most as many as the texts that the shop refused and that are this pattern, alone or between the marks
 abbrev pub RefusalsAreGained : Type 0
-RefusalsAreGained = (setting : Setting) (items : List Item) (known : Known) (gained : Gained) (answers : List Answer) (last : Known) → Replies setting items known gained answers last →
-    (pattern : List ℕ) (count : ℕ) → TellRefusals pattern items answers count → count ≤ count_by (λ text. bytes_eq text pattern || bytes_eq text (wrapped pattern)) gained.refused
+RefusalsAreGained = (setting : Setting) (items : List Item) (known : Known) (gained : Gained) (answers : List Answer) (pattern : List ℕ) (count : ℕ) →
+    TellRefusals setting pattern items known gained answers count → count ≤ count_by (λ text. bytes_eq text pattern || bytes_eq text (wrapped pattern)) gained.refused

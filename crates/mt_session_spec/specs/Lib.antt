@@ -11,9 +11,12 @@ pub mod Meaning
 pub mod Registering
 pub mod Adding
 pub mod Generating
+pub mod Ruling
 pub mod Asking
 pub mod Counting
 pub mod Querying
+pub mod Reporting
+pub mod Sketching
 pub mod Listing
 pub mod Removing
 pub mod Quitting

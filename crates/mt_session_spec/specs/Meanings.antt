@@ -9,6 +9,7 @@ use Rattle.mt_session_spec.specs.Adding.{texting, adding}
 use Rattle.mt_session_spec.specs.Generating.{generating}
 use Rattle.mt_session_spec.specs.Counting.{counting}
 use Rattle.mt_session_spec.specs.Querying.{querying}
+use Rattle.mt_session_spec.specs.Reporting.{listing_frequencies, listing_collocates}
 use Rattle.mt_session_spec.specs.Listing.{listing}
 use Rattle.mt_session_spec.specs.Quitting.{quitting}
 use Rattle.mt_session_spec.specs.Removing.{removing}
@@ -17,17 +18,17 @@ use Rattle.mt_session_spec.specs.Removing.{removing}
 abbrev pub question : Scene → Ask → Question
 question scene (Count cql) = counting scene cql
 question scene (Query cql) = querying scene cql
-question scene (Freq attr offset cql) = unbuilt_question
-question scene (Colloc attr first last least cql) = unbuilt_question
+question scene (Freq attr offset cql) = listing_frequencies scene attr offset cql
+question scene (Colloc attr first last least cql) = listing_collocates scene attr first last least cql
 question scene (Sketch least most lemma) = unbuilt_question
 question scene (Thes most lemma) = unbuilt_question
 
 -- what a command means in a world
 abbrev pub meaning : Setting → World → Command → Meaning
 meaning setting world (Registry file) = registering setting world file
-meaning setting world (Text name body) = texting world name body
-meaning setting world (Add name file) = adding world name file
-meaning setting world (Generate name seed tokens) = generating world name seed tokens
+meaning setting world (Text name body) = texting setting world name body
+meaning setting world (Add name file) = adding setting world name file
+meaning setting world (Generate name seed tokens) = generating setting world name seed tokens
 meaning setting world (Asks ask) = asking (question (scene_of setting world.held) ask) world
 meaning setting world (Grammar file) = unbuilt world
 meaning setting world (Rules body) = unbuilt world

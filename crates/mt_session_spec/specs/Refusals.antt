@@ -3,7 +3,10 @@ use Rattle.std.specs.Prelude.{ℕ, List, ◌∷◌, ◌++◌, codes}
 use Rattle.std.specs.Fmt.{decimal}
 use Rattle.mt_file_spec.specs.RegistryFile.{RegistryCause, registry_cause}
 use Rattle.mt_file_spec.specs.Vertical.{TextCause, text_cause}
+use Rattle.mt_query_spec.specs.Verdicts as verdict
 use Rattle.mt_query_spec.specs.Verdicts.{Cause, NoQuery, NoStringEnd, NoTokenBegins, Range, BadLabel}
+use Rattle.mt_grammar_spec.specs.GrammarFile as grammar
+use Rattle.mt_grammar_spec.specs.GrammarFile.{GrammarCause}
 
 -- why a command is refused
 pub data Refusal : Type 0 where
@@ -21,6 +24,9 @@ pub data Refusal : Type 0 where
   BadPattern : (k : ℕ) → Refusal
   TooManyRows : Refusal
   CorpusFull : Refusal
+  NoGrammar : Refusal
+  BadGrammar : (line : ℕ) (cause : GrammarCause) → Refusal
+  NoRelation : Refusal
   QueryTooLarge : Refusal
   NoSuchText : (name : List ℕ) → Refusal
 
@@ -31,6 +37,24 @@ query_cause NoStringEnd = codes "String"
 query_cause NoTokenBegins = codes "Char"
 query_cause Range = codes "Range"
 query_cause BadLabel = codes "Label"
+
+-- why the query of a line of a grammar is refused
+abbrev pub rule_cause : verdict.Refusal → List ℕ
+rule_cause verdict.TooLarge = codes "TooLarge"
+rule_cause (verdict.Syntax at cause) = codes "Syntax " ++ decimal at ++ 32 ∷ query_cause cause
+rule_cause (verdict.Unknown at) = codes "Unknown " ++ decimal at
+
+-- why a line of a grammar is refused
+abbrev pub grammar_cause : GrammarCause → List ℕ
+grammar_cause grammar.NotUtf8 = codes "NotUtf8"
+grammar_cause grammar.NoDirective = codes "Directive"
+grammar_cause grammar.SecondKind = codes "Kind"
+grammar_cause grammar.NoName = codes "Name"
+grammar_cause grammar.NoGoodHeading = codes "Heading"
+grammar_cause grammar.NoHeading = codes "NoHeading"
+grammar_cause grammar.TooMany = codes "TooMany"
+grammar_cause (grammar.NoQuery refusal) = rule_cause refusal
+grammar_cause grammar.NoLabel = codes "Label"
 
 -- the line that answers a refused command
 abbrev pub refusal_line : Refusal → List ℕ
@@ -48,6 +72,9 @@ refusal_line (UnknownName name) = codes "! 19 UnknownName " ++ name
 refusal_line (BadPattern k) = codes "! 20 BadPattern " ++ decimal k
 refusal_line TooManyRows = codes "! 22 TooManyRows"
 refusal_line CorpusFull = codes "! 23 CorpusFull"
+refusal_line NoGrammar = codes "! 25 NoGrammar"
+refusal_line (BadGrammar line cause) = codes "! 26 BadGrammar " ++ decimal line ++ 32 ∷ grammar_cause cause
+refusal_line NoRelation = codes "! 26 BadGrammar 0 NoRelation"
 refusal_line QueryTooLarge = codes "! 27 QueryTooLarge"
 refusal_line (NoSuchText name) = codes "! 31 NoSuchText " ++ name
 

@@ -24,9 +24,9 @@ pub data IsNoRegistry (setting : Setting) (world : World) (file : List ℕ) : Re
       IsNoRegistry setting world file (BadRegistry line cause)
   Baseless : (bytes : List ℕ) → IsFile world.files file bytes → LacksBase (mapper_names setting) bytes → IsNoRegistry setting world file NoAttribute
 
--- from now on this registry holds, and there is no text
+-- from now on this registry holds, and there is no text and no grammar
 abbrev pub with_registry : Held → Registry → Held
-with_registry held registry = record held { registry = registry; accepted = true; groups = [] }
+with_registry held registry = record held { registry = registry; accepted = true; grammar = None; groups = [] }
 
 -- the registry that the file is read as holds from now on
 pub record SetsRegistry (setting : Setting) (world : World) (file : List ℕ) (new : World) (answer : Answer) : Type 0 where

@@ -18,7 +18,8 @@ pub record RemovesText (world : World) (name : List ℕ) (new : World) (answer :
   pub changed : new ≡ record world { held = without_text world.held name }
   pub says : answer ≡ Lines ((codes "ok " ++ decimal (length text.tokens)) ∷ [])
 
--- `remove`: a text of this name is in the corpus. While no grammar can be held there is nothing else to ask.
+-- `remove`: a text of this name is in the corpus. What a grammar counts in it goes with it: no query of the grammar has too many rows there, or the grammar or the text
+-- would have been refused.
 abbrev pub removing : World → List ℕ → Meaning
 removing world name = record {
   checks = When (¬ Holds world.held name) (NoSuchText name) ∷ [];

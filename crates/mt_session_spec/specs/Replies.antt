@@ -1,11 +1,12 @@
 -- What is answered to the items of a script.
-use Rattle.std.specs.Prelude.{ℕ, ◌≡◌, ◌≢◌, List, [], ◌∷◌, Option, None, Some, option_map, Ok}
+use Rattle.std.specs.Prelude.{ℕ, ◌≡◌, ◌≢◌, List, [], ◌∷◌, Option, Some, option_map, Ok}
 use Rattle.std.specs.List.{All}
 use Rattle.mt_text_spec.specs.Registries.{Registry}
-use Rattle.mt_text_spec.specs.Queries.{Query as QueryOf}
+use Rattle.mt_text_spec.specs.Queries.{Query as QueryOf, Grammar as GrammarOf}
 use Rattle.mt_query_spec.specs.Verdicts.{Means}
 use Rattle.mt_query_spec.specs.Contents.{patterns}
-use Rattle.mt_script_spec.specs.Commands.{Count, Query, Asks, Quit}
+use Rattle.mt_rule_spec.specs.Rules.{grammar_patterns}
+use Rattle.mt_script_spec.specs.Commands.{Ask, Count, Query, Freq, Colloc, Asks, Grammar, Rules, Quit}
 use Rattle.mt_script_spec.specs.Script.{Item, Given, Bad, CutShort}
 use Rattle.mt_shelf_spec.specs.Files.{Files}
 use Rattle.mt_session_spec.specs.World.{Held, World, first_held}
@@ -14,6 +15,8 @@ use Rattle.mt_session_spec.specs.Gains.{Gained, none_gained, gained_then}
 use Rattle.mt_session_spec.specs.Refusals.{Refusal, refusal_line, no_memory_line, BadCommand, CutShort as CutShortRefusal}
 use Rattle.mt_session_spec.specs.Patterns.{IsDeep}
 use Rattle.mt_session_spec.specs.Answers.{Answer, Refused}
+use Rattle.mt_session_spec.specs.Files.{IsFile}
+use Rattle.mt_session_spec.specs.Ruling.{GivesGrammar}
 use Rattle.mt_session_spec.specs.Steps.{Fine, Step}
 
 -- ## One item
@@ -89,22 +92,41 @@ NoneStarved answers = All (λ answer. answer ≢ Refused no_memory_line) answers
 
 -- ## Patterns that nest too deep
 
--- the query of an item, where it asks one
-abbrev pub asked_cql : Item → Option (List ℕ)
-asked_cql (Given (Asks (Count cql))) = Some cql
-asked_cql (Given (Asks (Query cql))) = Some cql
-asked_cql item = None
-
--- The item asks a query with a pattern that, alone or between the marks, nests deeper than patterns may: it may be refused as if it were none.
-pub record AsksDeep (item : Item) : Type 0 where
-  pub cql : List ℕ
-  pub asks : asked_cql item ≡ Some cql
-  pub registry : Registry
+-- a text that is read as a query, whose patterns these are
+pub record PatternsOfQuery (registry : Registry) (cql : List ℕ) (texts : List (List ℕ)) : Type 0 where
   pub query : QueryOf
   pub read : Means registry 0 cql (Ok query)
-  pub number : ℕ
-  pub deep : IsDeep (patterns query) number
+  pub are : texts ≡ patterns query
 
--- no item asks such a query
-abbrev pub NoneDeep : List Item → Type 0
-NoneDeep items = All (λ item. ¬ AsksDeep item) items
+-- bytes that are read as a grammar, whose patterns these are
+pub record PatternsOfRules (registry : Registry) (Given : List ℕ → Type 0) (texts : List (List ℕ)) : Type 0 where
+  pub grammar : GrammarOf
+  pub gives : GivesGrammar registry Given grammar
+  pub are : texts ≡ grammar_patterns grammar
+
+-- the patterns for which a question asks
+abbrev pub AskHas : Registry → Ask → List (List ℕ) → Type 0
+AskHas registry (Count cql) texts = PatternsOfQuery registry cql texts
+AskHas registry (Query cql) texts = PatternsOfQuery registry cql texts
+AskHas registry (Freq attr offset cql) texts = PatternsOfQuery registry cql texts
+AskHas registry (Colloc attr first last least cql) texts = PatternsOfQuery registry cql texts
+AskHas registry ask texts = ⊥
+
+-- The patterns for which an item asks in a world: those of its query, or of the grammar that it sets. Other items ask for none.
+abbrev pub AsksFor : World → Item → List (List ℕ) → Type 0
+AsksFor world (Given (Asks ask)) texts = AskHas world.held.registry ask texts
+AsksFor world (Given (Rules body)) texts = PatternsOfRules world.held.registry (λ bytes. bytes ≡ body) texts
+AsksFor world (Given (Grammar file)) texts = PatternsOfRules world.held.registry (IsFile world.files file) texts
+AsksFor world item texts = ⊥
+
+-- The item asks in this world for a pattern that, alone or between the marks, nests deeper than patterns may: it may be refused as if it were none.
+pub record AsksDeep (world : World) (item : Item) : Type 0 where
+  pub texts : List (List ℕ)
+  pub asked : AsksFor world item texts
+  pub number : ℕ
+  pub deep : IsDeep texts number
+
+-- none of the items asks for such a pattern where it comes, from this world on
+abbrev pub NoneDeep : Setting → List Item → World → Type 0
+NoneDeep setting [] world = Unit {0}
+NoneDeep setting (item ∷ items) world = ¬ AsksDeep world item × ((next : World) (answer : Answer) → FineItem setting world item next answer → NoneDeep setting items next)

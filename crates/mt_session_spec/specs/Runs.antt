@@ -170,4 +170,4 @@ pub record AnswersScript (setting : Setting) (input written : List ℕ) (files :
   pub answers : List Answer
   pub read : Items ended taken items rest ⊎ ((first : List Item) × (items ≡ first ++ Given Quit ∷ []) × NoQuit first × Begins ended taken items rest)
   pub held : end.written ≡ Some (written ++ output_of answers)
-  pub one : NoneStarved answers → NoneDeep items → AreTheAnswers setting items files answers
+  pub one : NoneStarved answers → NoneDeep setting items (record { held = first_held; files = files }) → AreTheAnswers setting items files answers

@@ -1,9 +1,10 @@
 -- The world in which a command is given: what the session holds, and the files of the shelf.
-use Rattle.std.specs.Prelude.{ℕ, Bool, false, List, [], ◌∷◌, ◌++◌, Option, None}
+use Rattle.std.specs.Prelude.{ℕ, Bool, false, List, [], ◌∷◌, ◌++◌, Option, None, Some}
 use Rattle.mt_text_spec.specs.Registries.{Registry, standard_registry, ValidRegistry}
 use Rattle.mt_text_spec.specs.Texts.{Text}
 use Rattle.mt_text_spec.specs.Queries.{Grammar}
 use Rattle.mt_shelf_spec.specs.Files.{Files}
+use Rattle.mt_grammar_spec.specs.ValidGrammar.{ValidGrammar}
 use Rattle.mt_corpus_spec.specs.Groups.{HoldsName, ValidGroups, without}
 pub use Rattle.mt_corpus_spec.specs.Groups.{Group, live_texts, corpus_of, kept_texts, IsFull, alone}
 
@@ -37,9 +38,21 @@ with_text held text = record held { groups = held.groups ++ alone text ∷ [] }
 abbrev pub without_text : Held → List ℕ → Held
 without_text held name = record held { groups = without name held.groups }
 
+-- ## The grammar
+
+-- what is held once this grammar is
+abbrev pub with_grammar : Held → Grammar → Held
+with_grammar held grammar = record held { grammar = Some grammar }
+
 -- ## Valid worlds
 
--- What is always so: the registry is valid, and the groups of texts are valid under it.
+-- the grammar that is held, if there is one, is valid under the registry
+abbrev pub IsGrammarOf : Registry → Option Grammar → Type 0
+IsGrammarOf registry None = Unit {0}
+IsGrammarOf registry (Some grammar) = ValidGrammar registry grammar
+
+-- What is always so: the registry is valid, and the groups of texts and the grammar are valid under it.
 pub record ValidHeld (held : Held) : Type 0 where
   pub registry : ValidRegistry held.registry
   pub groups : ValidGroups held.registry held.groups
+  pub grammar : IsGrammarOf held.registry held.grammar
