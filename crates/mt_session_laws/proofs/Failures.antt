@@ -37,6 +37,9 @@ no_failure (refusal.UnknownName name) file e = apart 49 50 49 50 refl refl (omeg
 no_failure (refusal.BadPattern k) file e = apart 48 57 48 57 refl refl (omega arith) (ap fourth e)
 no_failure refusal.TooManyRows file e = apart 50 57 50 57 refl refl (omega arith) (ap fourth e)
 no_failure refusal.CorpusFull file e = apart 51 57 51 57 refl refl (omega arith) (ap fourth e)
+no_failure refusal.NoGrammar file e = apart 53 57 53 57 refl refl (omega arith) (ap fourth e)
+no_failure (refusal.BadGrammar line cause) file e = apart 54 57 54 57 refl refl (omega arith) (ap fourth e)
+no_failure refusal.NoRelation file e = apart 54 57 54 57 refl refl (omega arith) (ap fourth e)
 no_failure refusal.QueryTooLarge file e = apart 55 57 55 57 refl refl (omega arith) (ap fourth e)
 no_failure (refusal.NoSuchText name) file e = apart 50 51 50 51 refl refl (omega arith) (sym (ap third e))
 

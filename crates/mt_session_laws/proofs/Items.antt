@@ -44,7 +44,7 @@ item_keeps law setting world (Given command) valid said new answer f = law setti
 item_keeps law setting world Bad valid said new answer f = subst (λ (w : World). ValidHeld w.held) (sym f.same) valid
 item_keeps law setting world CutShort valid said new answer f = subst (λ (w : World). ValidHeld w.held) (sym f.same) valid
 
-fine_item : (setting : Setting) (world : World) (item : Item) (gained : Gained) (new : World) (answer : Answer) → (AsksDeep item → ⊥) → gained ≡ none_gained → (answer ≡ Refused no_memory_line → ⊥) →
+fine_item : (setting : Setting) (world : World) (item : Item) (gained : Gained) (new : World) (answer : Answer) → (AsksDeep world item → ⊥) → gained ≡ none_gained → (answer ≡ Refused no_memory_line → ⊥) →
     ItemStep setting world item gained new answer → FineItem setting world item new answer
 fine_item setting world (Given command) gained new answer none e ne s = fine_step setting world command gained new answer none e ne s
 fine_item setting world Bad gained new answer none e ne s = record { none = refl; same = s.same; says = s.says }
@@ -113,7 +113,7 @@ none_here here later e =
     let made : List (List ℕ) → List (List ℕ) → Gained = λ failed refused. record { failed = failed; refused = refused } in
     (ap (λ x. made x here.refused) f.0 ∙ ap (λ x. made [] x) r.0, ap (λ x. made x later.refused) f.1 ∙ ap (λ x. made [] x) r.1)
 
-replied : (setting : Setting) (items : List Item) (known : Known) (held : Held) (files : Files) (gained : Gained) (answers : List Answer) (last : Known) → known ≡ known_by held files → gained ≡ none_gained → NoneStarved answers → NoneDeep items →
+replied : (setting : Setting) (items : List Item) (known : Known) (held : Held) (files : Files) (gained : Gained) (answers : List Answer) (last : Known) → known ≡ known_by held files → gained ≡ none_gained → NoneStarved answers → NoneDeep setting items (record { held = held; files = files }) →
     Replies setting items known gained answers last → Replied setting items held files answers
 replied setting [] known held files gained answers last k e ne none (NoReplies at) = record { last = record { held = held; files = files }; are = NoAnswers (record { held = held; files = files }) }
 replied setting (item ∷ items) known held files gained answers last k e ne none (ThenReply i is at next l here later answer more s r) =
@@ -121,12 +121,13 @@ replied setting (item ∷ items) known held files gained answers last k e ne non
     let held_is : (s.world).held ≡ held = (s.may_be).held ∙ ap (λ (x : Known). x.held) k in
     let files_are : (s.world).files ≡ files = (s.may_be).files files (ap (λ (x : Known). x.files) k) in
     let world_is = world_of s.world held files held_is files_are in
-    let step = fine_item setting s.world item here s.new answer (head_of (λ i. ¬ AsksDeep i) item items none) parts.0 (first_starved answer more ne) s.step in
+    let began : World = record { held = held; files = files } in
+    let step = fine_item setting began item here s.new answer none.0 parts.0 (first_starved answer more ne) (subst (λ w. ItemStep setting w item here s.new answer) world_is s.step) in
     let next_is : next ≡ known_by (s.new).held (s.new).files = s.behind ∙ ap (λ (x : Known). known_after x s.new) k in
-    let rest = replied setting items next (s.new).held (s.new).files later more last next_is parts.1 (later_starved answer more ne) (tail_of (λ i. ¬ AsksDeep i) item items none) r in
+    let rest = replied setting items next (s.new).held (s.new).files later more last next_is parts.1 (later_starved answer more ne) (none.1 s.new answer step) r in
     record {
       last = rest.last;
-      are = ThenAnswer item items (record { held = held; files = files }) s.new rest.last answer more (subst (λ w. FineItem setting w item s.new answer) world_is step) rest.are;
+      are = ThenAnswer item items began s.new rest.last answer more step rest.are;
     }
 
 pub replies_answers : OneAnswers → RepliesAreAnswers

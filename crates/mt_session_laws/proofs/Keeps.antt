@@ -27,7 +27,7 @@ use Rattle.mt_session_spec.specs.Files.{IsFile}
 use Rattle.mt_session_spec.specs.Listing.{listing}
 use Rattle.mt_session_spec.specs.Quitting.{quitting}
 use Rattle.mt_session_spec.specs.Removing.{removing}
-use Rattle.mt_session_spec.specs.Replies.{AsksDeep}
+use Rattle.mt_session_spec.specs.Replies.{AsksDeep, AskHas, PatternsOfQuery}
 use Rattle.mt_session_spec.specs.Meanings.{meaning, question}
 use Rattle.mt_session_spec.specs.Answers.{Answer, Refused, Lines, Last}
 use Rattle.mt_session_spec.specs.Steps.{IsSaid}
@@ -69,9 +69,9 @@ plain_keeps world Loads valid gained new answer e = same_valid world.held new.he
 unbuilt_keeps : (world : World) → ValidHeld world.held → KeepsValid (unbuilt world)
 unbuilt_keeps world valid = record { accepted = λ none new answer a. absurd a; excepted = plain_keeps world LoadsNone valid }
 
-text_keeps : (laws : Validities) (world : World) (name : List ℕ) (Given : List ℕ → Type 0) → ValidHeld world.held → IsName name → (Holds world.held name → ⊥) → NoneStands (text_checks world.held name Given) →
+text_keeps : (laws : Validities) (setting : Setting) (world : World) (name : List ℕ) (Given : List ℕ → Type 0) → ValidHeld world.held → IsName name → (Holds world.held name → ⊥) → NoneStands (text_checks setting world.held name Given) →
     (new : World) (answer : Answer) → AddsText world name Given new answer → ValidHeld new.held
-text_keeps laws world name Given valid named free none new answer a =
+text_keeps laws setting world name Given valid named free none new answer a =
     let one = laws.texts world.held.registry name a.bytes a.text named a.read in
     same_valid (with_text world.held a.text) new.held (ap (λ (w : World). w.held) a.changed)
     (text_valid world.held a.text valid one (subst (λ n. Holds world.held n → ⊥) (sym (a.read).named) free) (λ full. none.1.0 _ (record { is = refl; there = record { bytes = a.bytes; given = a.given; text = a.text; read = a.read; full = full } })))
@@ -84,15 +84,15 @@ registry_keeps laws setting world file valid = record {
   excepted = plain_keeps world (LoadsBehind (registry_front world) file) valid;
 }
 
-texting_keeps : (laws : Validities) (world : World) (name body : List ℕ) → ValidHeld world.held → IsName name → KeepsValid (texting world name body)
-texting_keeps laws world name body valid named = record {
-  accepted = λ none. text_keeps laws world name (λ bytes. bytes ≡ body) valid named (λ h. none.0 _ (record { is = refl; there = h })) none.1;
+texting_keeps : (laws : Validities) (setting : Setting) (world : World) (name body : List ℕ) → ValidHeld world.held → IsName name → KeepsValid (texting setting world name body)
+texting_keeps laws setting world name body valid named = record {
+  accepted = λ none. text_keeps laws setting world name (λ bytes. bytes ≡ body) valid named (λ h. none.0 _ (record { is = refl; there = h })) none.1;
   excepted = plain_keeps world LoadsNone valid;
 }
 
-adding_keeps : (laws : Validities) (world : World) (name file : List ℕ) → ValidHeld world.held → IsName name → KeepsValid (adding world name file)
-adding_keeps laws world name file valid named = record {
-  accepted = λ none. text_keeps laws world name (IsFile world.files file) valid named (λ h. none.0 _ (record { is = refl; there = h })) none.1.1.1;
+adding_keeps : (laws : Validities) (setting : Setting) (world : World) (name file : List ℕ) → ValidHeld world.held → IsName name → KeepsValid (adding setting world name file)
+adding_keeps laws setting world name file valid named = record {
+  accepted = λ none. text_keeps laws setting world name (IsFile world.files file) valid named (λ h. none.0 _ (record { is = refl; there = h })) none.1.1.1;
   excepted = plain_keeps world (LoadsBehind (name_checks world.held name) file) valid;
 }
 
@@ -108,10 +108,10 @@ asking_keeps asked world valid = record {
 
 pub keeps_valid : (laws : Validities) (setting : Setting) (world : World) (given : Command) → ValidHeld world.held → IsSaid given → KeepsValid (meaning setting world given)
 keeps_valid laws setting world (command.Registry file) valid said = registry_keeps laws setting world file valid
-keeps_valid laws setting world (command.Text name body) valid said = texting_keeps laws world name body valid (text_name name body said)
-keeps_valid laws setting world (command.Add name file) valid said = adding_keeps laws world name file valid (add_name name file said)
+keeps_valid laws setting world (command.Text name body) valid said = texting_keeps laws setting world name body valid (text_name name body said)
+keeps_valid laws setting world (command.Add name file) valid said = adding_keeps laws setting world name file valid (add_name name file said)
 keeps_valid laws setting world (command.Generate name seed tokens) valid said =
-    texting_keeps laws world name (generated_vertical name seed tokens) valid (generate_name name seed tokens said)
+    texting_keeps laws setting world name (generated_vertical name seed tokens) valid (generate_name name seed tokens said)
 keeps_valid laws setting world (command.Asks ask) valid said = asking_keeps (question (scene_of setting world.held) ask) world valid
 keeps_valid laws setting world (command.Grammar file) valid said = unbuilt_keeps world valid
 keeps_valid laws setting world (command.Rules body) valid said = unbuilt_keeps world valid
@@ -159,47 +159,54 @@ query_starved : (scene : Scene) (cql line : List ℕ) → ((query : Query) (k : 
 query_starved scene cql line none (Deep query k read deep) = none query k read deep
 query_starved scene cql line none (RefusedPattern query k read refused) = none_among refused.text refused.among
 
--- where nothing was gained and no pattern nests too deep, a question has no exception but want of memory
-question_starved : (scene : Scene) (ask : Ask) → (AsksDeep (script.Given (command.Asks ask)) → ⊥) → (line : List ℕ) → (question scene ask).Excepts none_gained line → ⊥
-question_starved scene (command.Count cql) none line e =
-    query_starved scene cql line (λ query k read deep. none (record { cql = cql; asks = refl; registry = scene.registry; query = query; read = read; number = k; deep = deep })) e
-question_starved scene (command.Query cql) none line e =
-    query_starved scene cql line (λ query k read deep. none (record { cql = cql; asks = refl; registry = scene.registry; query = query; read = read; number = k; deep = deep })) e
-question_starved scene (command.Freq attr offset cql) none line e = e
-question_starved scene (command.Colloc attr first last least cql) none line e = e
-question_starved scene (command.Sketch least most lemma) none line e = e
-question_starved scene (command.Thes most lemma) none line e = e
+-- a question that asks for the patterns of its query
+asked_starved : (setting : Setting) (world : World) (ask : Ask) (cql line : List ℕ) → ((texts : List (List ℕ)) → PatternsOfQuery world.held.registry cql texts → AskHas world.held.registry ask texts) →
+    (AsksDeep world (script.Given (command.Asks ask)) → ⊥) → ExceptsQuery (scene_of setting world.held) cql none_gained line → ⊥
+asked_starved setting world ask cql line has none e = query_starved (scene_of setting world.held) cql line
+    (λ query k read deep. none (record { texts = patterns query; asked = has (patterns query) (record { query = query; read = read; are = refl }); number = k; deep = deep })) e
+
+-- where nothing was gained and no pattern nests too deep, a question has no exception but that memory ran out
+question_starved : (setting : Setting) (world : World) (ask : Ask) → (AsksDeep world (script.Given (command.Asks ask)) → ⊥) → (line : List ℕ) → (question (scene_of setting world.held) ask).Excepts none_gained line → ⊥
+question_starved setting world (command.Count cql) none line e = asked_starved setting world (command.Count cql) cql line (λ texts has. has) none e
+question_starved setting world (command.Query cql) none line e = asked_starved setting world (command.Query cql) cql line (λ texts has. has) none e
+question_starved setting world (command.Freq attr offset cql) none line e = asked_starved setting world (command.Freq attr offset cql) cql line (λ texts has. has) none e.excepts
+question_starved setting world (command.Colloc attr first last least cql) none line e =
+    asked_starved setting world (command.Colloc attr first last least cql) cql line (λ texts has. has) none e.excepts
+question_starved setting world (command.Sketch least most lemma) none line e = e
+question_starved setting world (command.Thes most lemma) none line e = e
 
 ask_starved : (asked : Question) (world : World) → ((line : List ℕ) → asked.Excepts none_gained line → ⊥) → (new : World) (answer : Answer) → ExceptsQuestion asked world none_gained new answer → answer ≡ Refused no_memory_line
 ask_starved asked world none new answer QuestionStarved = refl
 ask_starved asked world none new answer (QuestionExcepted line e) = absurd (none line e)
 
-asking_fair : (scene : Scene) (ask : Ask) (world : World) → IsFair (asking (question scene ask) world) world (AsksDeep (script.Given (command.Asks ask)))
-asking_fair scene ask world = record {
-  accepted = λ new line a. no_lines line a.lines a.says;
-  kept = λ gained new answer e. ap (λ (w : World). w.held) (question_same (question scene ask) world gained new answer e);
-  starved = λ none. ask_starved (question scene ask) world (question_starved scene ask none);
-}
+asking_fair : (setting : Setting) (world : World) (ask : Ask) → IsFair (asking (question (scene_of setting world.held) ask) world) world (AsksDeep world (script.Given (command.Asks ask)))
+asking_fair setting world ask =
+    let asked = question (scene_of setting world.held) ask in
+    record {
+      accepted = λ new line a. no_lines line a.lines a.says;
+      kept = λ gained new answer e. ap (λ (w : World). w.held) (question_same asked world gained new answer e);
+      starved = λ none. ask_starved asked world (question_starved setting world ask none);
+    }
 
-pub is_fair : (setting : Setting) (world : World) (given : Command) → IsFair (meaning setting world given) world (AsksDeep (script.Given given))
-is_fair setting world (command.Registry file) = plain_fair (registering setting world file) world (LoadsBehind (registry_front world) file) (AsksDeep (script.Given (command.Registry file))) refl (λ new line a. no_lines line _ a.says)
-is_fair setting world (command.Text name body) = plain_fair (texting world name body) world LoadsNone (AsksDeep (script.Given (command.Text name body))) refl (λ new line a. no_lines line _ a.says)
-is_fair setting world (command.Add name file) = plain_fair (adding world name file) world (LoadsBehind (name_checks world.held name) file) (AsksDeep (script.Given (command.Add name file))) refl (λ new line a. no_lines line _ a.says)
-is_fair setting world (command.Generate name seed tokens) = plain_fair (generating world name seed tokens) world LoadsNone (AsksDeep (script.Given (command.Generate name seed tokens))) refl (λ new line a. no_lines line _ a.says)
-is_fair setting world (command.Asks ask) = asking_fair (scene_of setting world.held) ask world
-is_fair setting world (command.Grammar file) = unbuilt_fair world (AsksDeep (script.Given (command.Grammar file)))
-is_fair setting world (command.Rules body) = unbuilt_fair world (AsksDeep (script.Given (command.Rules body)))
-is_fair setting world (command.Merge first last) = unbuilt_fair world (AsksDeep (script.Given (command.Merge first last)))
-is_fair setting world (command.Batch asked merge) = unbuilt_fair world (AsksDeep (script.Given (command.Batch asked merge)))
-is_fair setting world command.Segments = plain_fair (listing world) world LoadsNone (AsksDeep (script.Given command.Segments)) refl (λ new line a. no_lines line _ a.says)
-is_fair setting world (command.Save name) = unbuilt_fair world (AsksDeep (script.Given (command.Save name)))
-is_fair setting world (command.Load name) = unbuilt_fair world (AsksDeep (script.Given (command.Load name)))
-is_fair setting world command.Quit = plain_fair (quitting world) world LoadsNone (AsksDeep (script.Given command.Quit)) refl (λ new line a. no_last line _ a.says)
-is_fair setting world (command.Remove name) = plain_fair (removing world name) world LoadsNone (AsksDeep (script.Given (command.Remove name))) refl (λ new line a. no_lines line _ a.says)
-is_fair setting world (command.Subcorpus name cql) = unbuilt_fair world (AsksDeep (script.Given (command.Subcorpus name cql)))
-is_fair setting world (command.Subcount name cql) = unbuilt_fair world (AsksDeep (script.Given (command.Subcount name cql)))
-is_fair setting world (command.Keywords name attr rarity most) = unbuilt_fair world (AsksDeep (script.Given (command.Keywords name attr rarity most)))
-is_fair setting world (command.Partner name kind) = unbuilt_fair world (AsksDeep (script.Given (command.Partner name kind)))
+pub is_fair : (setting : Setting) (world : World) (given : Command) → IsFair (meaning setting world given) world (AsksDeep world (script.Given given))
+is_fair setting world (command.Registry file) = plain_fair (registering setting world file) world (LoadsBehind (registry_front world) file) (AsksDeep world (script.Given (command.Registry file))) refl (λ new line a. no_lines line _ a.says)
+is_fair setting world (command.Text name body) = plain_fair (texting setting world name body) world LoadsNone (AsksDeep world (script.Given (command.Text name body))) refl (λ new line a. no_lines line _ a.says)
+is_fair setting world (command.Add name file) = plain_fair (adding setting world name file) world (LoadsBehind (name_checks world.held name) file) (AsksDeep world (script.Given (command.Add name file))) refl (λ new line a. no_lines line _ a.says)
+is_fair setting world (command.Generate name seed tokens) = plain_fair (generating setting world name seed tokens) world LoadsNone (AsksDeep world (script.Given (command.Generate name seed tokens))) refl (λ new line a. no_lines line _ a.says)
+is_fair setting world (command.Asks ask) = asking_fair setting world ask
+is_fair setting world (command.Grammar file) = unbuilt_fair world (AsksDeep world (script.Given (command.Grammar file)))
+is_fair setting world (command.Rules body) = unbuilt_fair world (AsksDeep world (script.Given (command.Rules body)))
+is_fair setting world (command.Merge first last) = unbuilt_fair world (AsksDeep world (script.Given (command.Merge first last)))
+is_fair setting world (command.Batch asked merge) = unbuilt_fair world (AsksDeep world (script.Given (command.Batch asked merge)))
+is_fair setting world command.Segments = plain_fair (listing world) world LoadsNone (AsksDeep world (script.Given command.Segments)) refl (λ new line a. no_lines line _ a.says)
+is_fair setting world (command.Save name) = unbuilt_fair world (AsksDeep world (script.Given (command.Save name)))
+is_fair setting world (command.Load name) = unbuilt_fair world (AsksDeep world (script.Given (command.Load name)))
+is_fair setting world command.Quit = plain_fair (quitting world) world LoadsNone (AsksDeep world (script.Given command.Quit)) refl (λ new line a. no_last line _ a.says)
+is_fair setting world (command.Remove name) = plain_fair (removing world name) world LoadsNone (AsksDeep world (script.Given (command.Remove name))) refl (λ new line a. no_lines line _ a.says)
+is_fair setting world (command.Subcorpus name cql) = unbuilt_fair world (AsksDeep world (script.Given (command.Subcorpus name cql)))
+is_fair setting world (command.Subcount name cql) = unbuilt_fair world (AsksDeep world (script.Given (command.Subcount name cql)))
+is_fair setting world (command.Keywords name attr rarity most) = unbuilt_fair world (AsksDeep world (script.Given (command.Keywords name attr rarity most)))
+is_fair setting world (command.Partner name kind) = unbuilt_fair world (AsksDeep world (script.Given (command.Partner name kind)))
 
 -- ## Failures that are told
 
@@ -217,8 +224,8 @@ query_untold scene cql line file gained (RefusedPattern query k read refused) e 
 question_untold : (scene : Scene) (ask : Ask) (gained : Gained) (line file : List ℕ) → (question scene ask).Excepts gained line → line ≡ failure_line file → ⊥
 question_untold scene (command.Count cql) gained line file x e = query_untold scene cql line file gained x e
 question_untold scene (command.Query cql) gained line file x e = query_untold scene cql line file gained x e
-question_untold scene (command.Freq attr offset cql) gained line file x e = x
-question_untold scene (command.Colloc attr first last least cql) gained line file x e = x
+question_untold scene (command.Freq attr offset cql) gained line file x e = query_untold scene cql line file gained x.excepts e
+question_untold scene (command.Colloc attr first last least cql) gained line file x e = query_untold scene cql line file gained x.excepts e
 question_untold scene (command.Sketch least most lemma) gained line file x e = x
 question_untold scene (command.Thes most lemma) gained line file x e = x
 
@@ -232,9 +239,9 @@ asking_tells scene world ask = record { accepted = λ new answer file a. none_to
 
 pub tells_gained : (setting : Setting) (world : World) (given : Command) → TellsGained (meaning setting world given)
 tells_gained setting world (command.Registry file) = plain_tells (registering setting world file) world (LoadsBehind (registry_front world) file) refl (λ new answer other a. none_told answer _ other a.says)
-tells_gained setting world (command.Text name body) = plain_tells (texting world name body) world LoadsNone refl (λ new answer other a. none_told answer _ other a.says)
-tells_gained setting world (command.Add name file) = plain_tells (adding world name file) world (LoadsBehind (name_checks world.held name) file) refl (λ new answer other a. none_told answer _ other a.says)
-tells_gained setting world (command.Generate name seed tokens) = plain_tells (generating world name seed tokens) world LoadsNone refl (λ new answer other a. none_told answer _ other a.says)
+tells_gained setting world (command.Text name body) = plain_tells (texting setting world name body) world LoadsNone refl (λ new answer other a. none_told answer _ other a.says)
+tells_gained setting world (command.Add name file) = plain_tells (adding setting world name file) world (LoadsBehind (name_checks world.held name) file) refl (λ new answer other a. none_told answer _ other a.says)
+tells_gained setting world (command.Generate name seed tokens) = plain_tells (generating setting world name seed tokens) world LoadsNone refl (λ new answer other a. none_told answer _ other a.says)
 tells_gained setting world (command.Asks ask) = asking_tells (scene_of setting world.held) world ask
 tells_gained setting world (command.Grammar file) = unbuilt_tells world
 tells_gained setting world (command.Rules body) = unbuilt_tells world

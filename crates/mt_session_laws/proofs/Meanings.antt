@@ -53,16 +53,16 @@ fair_keeps meant world Nests gained fair new answer line e (Meant n a (Accepted 
 fair_keeps meant world Nests gained fair new answer line e (Excepted n a x) = fair.kept gained n a x
 
 pub refused_keep : RefusedKeep
-refused_keep setting world given gained valid said new line s = fair_keeps (meaning setting world given) world (AsksDeep (Given given)) gained (is_fair setting world given) new (Refused line) line refl s
+refused_keep setting world given gained valid said new line s = fair_keeps (meaning setting world given) world (AsksDeep world (Given given)) gained (is_fair setting world given) new (Refused line) line refl s
 
 -- a step in which nothing was gained, memory lasted and no pattern nests too deep
 starved_not : (meant : Meaning) (world : World) (Nests : Type 0) → IsFair meant world Nests → (Nests → ⊥) → (gained : Gained) (new : World) (answer : Answer) → gained ≡ none_gained → (answer ≡ Refused no_memory_line → ⊥) → StepBy meant world gained new answer → FineBy meant world new answer
 starved_not meant world Nests fair none gained new answer e ne (Meant n a f) = f
 starved_not meant world Nests fair none gained new answer e ne (Excepted n a x) = absurd (ne (fair.starved none n a (rw e at x)))
 
-pub fine_step : (setting : Setting) (world : World) (given : Command) (gained : Gained) (new : World) (answer : Answer) → (AsksDeep (Given given) → ⊥) → gained ≡ none_gained → (answer ≡ Refused no_memory_line → ⊥) →
+pub fine_step : (setting : Setting) (world : World) (given : Command) (gained : Gained) (new : World) (answer : Answer) → (AsksDeep world (Given given) → ⊥) → gained ≡ none_gained → (answer ≡ Refused no_memory_line → ⊥) →
     Step setting world given gained new answer → Fine setting world given new answer
-fine_step setting world given gained new answer none e ne s = starved_not (meaning setting world given) world (AsksDeep (Given given)) (is_fair setting world given) none gained new answer e ne s
+fine_step setting world given gained new answer none e ne s = starved_not (meaning setting world given) world (AsksDeep world (Given given)) (is_fair setting world given) none gained new answer e ne s
 
 -- the failures that a step tells
 step_told : (meant : Meaning) (world : World) (gained : Gained) → TellsGained meant → (new : World) (answer : Answer) (file : List ℕ) → StepBy meant world gained new answer →

@@ -1,15 +1,20 @@
 -- No command has two meanings.
-use Rattle.std.proofs.Common.{◌≡◌, ℕ, suc, List, [], ◌∷◌, ◌++◌, length, Some, Ok, Err, arith, refl, sym, ◌∙◌, ap, subst, codes}
+use Rattle.std.proofs.Common.{◌≡◌, inl, inr, ℕ, suc, ◌<◌, List, [], ◌∷◌, ◌++◌, length, Some, Ok, Err, arith, refl, sym, ◌∙◌, ap, subst, codes}
+use Rattle.std.specs.Prelude.{slice_get}
 use Rattle.std.specs.List.{All}
 use Rattle.std.specs.Fmt.{decimal}
-use Rattle.mt_text_spec.specs.Registries.{Registry, ValidRegistry}
+use Rattle.std.proofs.lemmas.Bool.{cases_lt}
+use Rattle.std.proofs.lemmas.Option.{slice_get_within, get_or_from_slice_get}
+use Rattle.mt_text_spec.specs.Registries.{Registry, ValidRegistry, AreDistinct, attr_names}
 use Rattle.mt_text_spec.specs.Texts.{Text, Span}
 use Rattle.mt_text_spec.specs.Queries.{Query}
 use Rattle.mt_query_spec.specs.Verdicts as verdict
 use Rattle.mt_query_spec.specs.Contents.{patterns}
 use Rattle.mt_match_spec.specs.Kept.{Spans}
 use Rattle.mt_match_laws.specs.Laws.{SpansAreOne}
+use Rattle.mt_report_laws.specs.Laws.{FrequenciesAreOne, CollocatesAreOne}
 use Rattle.mt_report_spec.specs.Lines.{query_lines}
+use Rattle.mt_report_spec.specs.Counts.{FrequencyText, CollocationText}
 use Rattle.mt_shelf_spec.specs.Files.{Files}
 use Rattle.mt_vertical.specs.TextLaws as text
 use Rattle.mt_registry.specs.RegistryLaws as registry
@@ -20,7 +25,7 @@ use Rattle.mt_session_spec.specs.World.{World, Held, ValidHeld, with_text, corpu
 use Rattle.mt_session_spec.specs.Scenes.{Scene, scene_of}
 use Rattle.mt_session_spec.specs.Patterns.{IsWhole, IsFirstBad}
 use Rattle.mt_session_spec.specs.Settings.{Setting, mapper_names}
-use Rattle.mt_session_spec.specs.Refusals.{NameTaken, NoSuchFile, FileTooLong, RegistryLate, BadCommand, CorpusFull, BadVertical, BadRegistry, BadQuery, UnknownName, BadPattern, NoSuchText}
+use Rattle.mt_session_spec.specs.Refusals.{NameTaken, NoSuchFile, FileTooLong, RegistryLate, BadCommand, CorpusFull, BadVertical, BadRegistry, BadQuery, UnknownName, BadPattern, TooManyRows, NoSuchText}
 use Rattle.mt_session_spec.specs.Checks.{IsSingle, AreSingle}
 use Rattle.mt_session_spec.specs.Files.{IsFile, file_checks}
 use Rattle.mt_session_spec.specs.Meaning.{asking, unbuilt, unbuilt_question, Question}
@@ -29,6 +34,7 @@ use Rattle.mt_session_spec.specs.Adding.{texting, adding, AddsText, IsNoText, Ba
 use Rattle.mt_session_spec.specs.Asking.{Reads, IsNoQuery, Great, Faulty, Undeclared, HasBadPattern, Bad, HasTooManyRows, Many, query_checks, name_at}
 use Rattle.mt_session_spec.specs.Counting.{Counts, number_line}
 use Rattle.mt_session_spec.specs.Querying.{ListsSpans}
+use Rattle.mt_session_spec.specs.Reporting.{Reports, report_checks}
 use Rattle.mt_session_spec.specs.Removing.{removing, RemovesText}
 use Rattle.mt_session_spec.specs.Meanings.{meaning, question}
 use Rattle.mt_session_spec.specs.Answers.{Answer, Lines}
@@ -46,6 +52,8 @@ pub record Readings : Type 0 where
   pub apart : registry.AreApart
   pub one_query : OneQuery
   pub one_spans : SpansAreOne
+  pub one_frequencies : FrequenciesAreOne
+  pub one_collocates : CollocatesAreOne
 
 -- ## Files
 
@@ -92,8 +100,8 @@ one_no_text laws registry Given valid one a b (BadLine x line cause f h) (BadLin
     let same = laws.one_fault registry y line number cause other valid (rw (one x y f g) at h) k in
     ap (λ n. BadVertical n cause) same.0 ∙ ap (λ c. BadVertical number c) same.1
 
-single_texts : (laws : Readings) (held : Held) (name : List ℕ) (Given : List ℕ → Type 0) → ValidRegistry held.registry → AreOne Given → AreSingle (text_checks held name Given)
-single_texts laws held name Given valid one = (one_no_text laws held.registry Given valid one, (single_when CorpusFull, tt))
+single_texts : (laws : Readings) (setting : Setting) (held : Held) (name : List ℕ) (Given : List ℕ → Type 0) → ValidRegistry held.registry → AreOne Given → AreSingle (text_checks setting held name Given)
+single_texts laws setting held name Given valid one = (one_no_text laws held.registry Given valid one, (single_when CorpusFull, (single_when TooManyRows, tt)))
 
 adds_one : (laws : Readings) (world : World) (name : List ℕ) (Given : List ℕ → Type 0) → ValidRegistry world.held.registry → AreOne Given → (new other : World) (answer another : Answer) →
     AddsText world name Given new answer → AddsText world name Given other another → (new ≡ other) × (answer ≡ another)
@@ -104,19 +112,19 @@ adds_one laws world name Given valid one new other answer another s t =
       s.says ∙ ap (λ (x : Text). Lines ((codes "ok " ++ decimal (length x.tokens)) ∷ [])) same ∙ sym t.says,
     )
 
-text_one : (laws : Readings) (world : World) (name body : List ℕ) → ValidRegistry world.held.registry → HasOne (texting world name body)
-text_one laws world name body valid =
+text_one : (laws : Readings) (setting : Setting) (world : World) (name body : List ℕ) → ValidRegistry world.held.registry → HasOne (texting setting world name body)
+text_one laws setting world name body valid =
     let one : AreOne (λ bytes. bytes ≡ body) = λ a b f g. f ∙ sym g in
     record {
-      checks = (single_when (NameTaken name), single_texts laws world.held name (λ bytes. bytes ≡ body) valid one);
+      checks = (single_when (NameTaken name), single_texts laws setting world.held name (λ bytes. bytes ≡ body) valid one);
       one = adds_one laws world name (λ bytes. bytes ≡ body) valid one;
     }
 
-add_one : (laws : Readings) (world : World) (name file : List ℕ) → ValidRegistry world.held.registry → HasOne (adding world name file)
-add_one laws world name file valid =
+add_one : (laws : Readings) (setting : Setting) (world : World) (name file : List ℕ) → ValidRegistry world.held.registry → HasOne (adding setting world name file)
+add_one laws setting world name file valid =
     let one : AreOne (IsFile world.files file) = same_bytes world.files file in
     record {
-      checks = (single_when (NameTaken name), (single_when (NoSuchFile file), (single_when (FileTooLong file), single_texts laws world.held name (IsFile world.files file) valid one)));
+      checks = (single_when (NameTaken name), (single_when (NoSuchFile file), (single_when (FileTooLong file), single_texts laws setting world.held name (IsFile world.files file) valid one)));
       one = adds_one laws world name (IsFile world.files file) valid one;
     }
 
@@ -195,6 +203,34 @@ queries_one : (laws : Readings) (scene : Scene) (cql : List ℕ) → (lines othe
 queries_one laws scene cql lines others c d =
     c.says ∙ ap (query_lines scene.images scene.registry scene.corpus) (same_spans laws scene cql c.query d.query c.spans d.spans c.read d.read c.are d.are) ∙ sym d.says
 
+-- ## Reports
+
+before_not : (names : List (List ℕ)) → AreDistinct names → (name : List ℕ) (i j : ℕ) → slice_get names i ≡ Some name → slice_get names j ≡ Some name → i < j → ⊥
+before_not names distinct name i j a b low =
+    distinct i j name low (slice_get_within names j name b) (get_or_from_slice_get names i name name a ∙ sym (get_or_from_slice_get names j name name b))
+
+-- of names that differ one number has this one
+same_number : (names : List (List ℕ)) → AreDistinct names → (name : List ℕ) (i j : ℕ) → slice_get names i ≡ Some name → slice_get names j ≡ Some name → i ≡ j
+same_number names distinct name i j a b = elim (cases_lt i j) [
+  | inl low ↦ absurd (before_not names distinct name i j a b low)
+  | inr high ↦ elim (cases_lt j i) [
+    | inl low ↦ absurd (before_not names distinct name j i b a low)
+    | inr low ↦ omega (arith, high, low)
+  ]
+]
+
+single_report : (laws : Readings) (scene : Scene) (attr cql : List ℕ) → AreSingle (report_checks scene attr cql)
+single_report laws scene attr cql = (single_when (UnknownName attr), single_query laws scene cql)
+
+-- where the spans and the number of the attribute say one thing only, so does the report
+reports_one : (laws : Readings) (scene : Scene) (attr cql : List ℕ) (Says : (lines : List (List ℕ)) (spans : List Span) (number : ℕ) → Type 0) → ValidRegistry scene.registry →
+    ((spans : List Span) (number : ℕ) (lines others : List (List ℕ)) → Says lines spans number → Says others spans number → lines ≡ others) → (lines others : List (List ℕ)) →
+    Reports scene attr cql (Says lines) → Reports scene attr cql (Says others) → lines ≡ others
+reports_one laws scene attr cql Says valid one lines others r s =
+    let spans : r.spans ≡ s.spans = same_spans laws scene cql r.query s.query r.spans s.spans r.read s.read r.are s.are in
+    let number : r.number ≡ s.number = same_number (attr_names scene.registry.attrs) valid.distinct attr r.number s.number r.named s.named in
+    one s.spans s.number lines others (subst (λ (n : ℕ). Says lines s.spans n) number (subst (λ (x : List Span). Says lines x r.number) spans r.says)) s.says
+
 -- a question has one answer at most
 record AsksOne (asked : Question) : Type 0 where
   pub checks : AreSingle asked.checks
@@ -203,13 +239,21 @@ record AsksOne (asked : Question) : Type 0 where
 unbuilt_asked : AsksOne unbuilt_question
 unbuilt_asked = record { checks = (single_when BadCommand, tt); one = λ lines others a b. absurd a }
 
-question_one : (laws : Readings) (scene : Scene) (ask : Ask) → AsksOne (question scene ask)
-question_one laws scene (command.Count cql) = record { checks = single_query laws scene cql; one = counts_one laws scene cql }
-question_one laws scene (command.Query cql) = record { checks = single_query laws scene cql; one = queries_one laws scene cql }
-question_one laws scene (command.Freq attr offset cql) = unbuilt_asked
-question_one laws scene (command.Colloc attr first last least cql) = unbuilt_asked
-question_one laws scene (command.Sketch least most lemma) = unbuilt_asked
-question_one laws scene (command.Thes most lemma) = unbuilt_asked
+question_one : (laws : Readings) (scene : Scene) (ask : Ask) → ValidRegistry scene.registry → AsksOne (question scene ask)
+question_one laws scene (command.Count cql) valid = record { checks = single_query laws scene cql; one = counts_one laws scene cql }
+question_one laws scene (command.Query cql) valid = record { checks = single_query laws scene cql; one = queries_one laws scene cql }
+question_one laws scene (command.Freq attr offset cql) valid = record {
+  checks = single_report laws scene attr cql;
+  one = reports_one laws scene attr cql (λ lines spans number. FrequencyText scene.images scene.registry scene.corpus spans number offset lines) valid
+      (λ spans number. laws.one_frequencies scene.images scene.registry scene.corpus spans number offset);
+}
+question_one laws scene (command.Colloc attr first last least cql) valid = record {
+  checks = single_report laws scene attr cql;
+  one = reports_one laws scene attr cql (λ lines spans number. CollocationText scene.images scene.registry scene.corpus spans number first last least lines) valid
+      (λ spans number. laws.one_collocates scene.images scene.registry scene.corpus spans number first last least);
+}
+question_one laws scene (command.Sketch least most lemma) valid = unbuilt_asked
+question_one laws scene (command.Thes most lemma) valid = unbuilt_asked
 
 ask_one : (asked : Question) (world : World) → AsksOne asked → HasOne (asking asked world)
 ask_one asked world a = record {
@@ -235,10 +279,10 @@ unbuilt_one world = record { checks = (single_when BadCommand, tt); one = λ new
 
 pub has_one : (laws : Readings) (setting : Setting) (world : World) (given : Command) → ValidHeld world.held → HasOne (meaning setting world given)
 has_one laws setting world (command.Registry file) valid = registry_one laws setting world file
-has_one laws setting world (command.Text name body) valid = text_one laws world name body valid.registry
-has_one laws setting world (command.Add name file) valid = add_one laws world name file valid.registry
-has_one laws setting world (command.Generate name seed tokens) valid = text_one laws world name (generated_vertical name seed tokens) valid.registry
-has_one laws setting world (command.Asks ask) valid = ask_one (question (scene_of setting world.held) ask) world (question_one laws (scene_of setting world.held) ask)
+has_one laws setting world (command.Text name body) valid = text_one laws setting world name body valid.registry
+has_one laws setting world (command.Add name file) valid = add_one laws setting world name file valid.registry
+has_one laws setting world (command.Generate name seed tokens) valid = text_one laws setting world name (generated_vertical name seed tokens) valid.registry
+has_one laws setting world (command.Asks ask) valid = ask_one (question (scene_of setting world.held) ask) world (question_one laws (scene_of setting world.held) ask valid.registry)
 has_one laws setting world (command.Grammar file) valid = unbuilt_one world
 has_one laws setting world (command.Rules body) valid = unbuilt_one world
 has_one laws setting world (command.Merge first last) valid = unbuilt_one world

@@ -1,9 +1,13 @@
 -- No command is without a meaning.
-use Rattle.std.proofs.Common.{◌≡◌, ◌⊎◌, ℕ, ◌<◌, ◌≤◌, inl, inr, List, length, Option, None, Some, Result, Ok, Err, refl}
+use Rattle.std.proofs.Common.{◌≡◌, ◌⊎◌, ℕ, ℤ, ◌<◌, ◌≤◌, inl, inr, List, length, Option, None, Some, Result, Ok, Err, refl, ◌∙◌, ap}
+use Rattle.std.specs.Prelude.{slice_get}
 use Rattle.std.proofs.lemmas.Bool.{cases_lt}
+use Rattle.std.proofs.lemmas.Option.{slice_get-get_or}
+use Rattle.mt_text_spec.specs.Registries.{attr_names}
 use Rattle.mt_text_spec.specs.Queries.{Query}
 use Rattle.mt_query_spec.specs.Verdicts as verdict
 use Rattle.mt_match_laws.specs.Laws.{HaveSpans}
+use Rattle.mt_report_laws.specs.Laws.{HaveFrequencies, HaveCollocates}
 use Rattle.mt_shelf_spec.specs.Files.{Files}
 use Rattle.mt_script_spec.specs.Commands as command
 use Rattle.mt_script_spec.specs.Commands.{Ask, Command}
@@ -19,6 +23,7 @@ use Rattle.mt_session_spec.specs.Adding.{adding, AddsText, BadLine, text_checks}
 use Rattle.mt_session_spec.specs.Asking.{Reads, Great, Faulty, Undeclared, query_checks}
 use Rattle.mt_session_spec.specs.Counting.{Counts}
 use Rattle.mt_session_spec.specs.Querying.{ListsSpans}
+use Rattle.mt_session_spec.specs.Reporting.{IsDeclared, report_checks, listing_frequencies, listing_collocates}
 use Rattle.mt_session_spec.specs.Removing.{removing}
 use Rattle.mt_session_spec.specs.Meanings.{meaning, question}
 use Rattle.mt_session_spec.specs.Answers.{Answer, Lines}
@@ -55,17 +60,17 @@ registry_some setting world file none k =
       ]
     ])
 
-text_some : (world : World) (name bytes : List ℕ) (Given : List ℕ → Type 0) → Given bytes → NoneStands (text_checks world.held name Given) →
+text_some : (setting : Setting) (world : World) (name bytes : List ℕ) (Given : List ℕ → Type 0) → Given bytes → NoneStands (text_checks setting world.held name Given) →
     ((new : World) (answer : Answer) → AddsText world name Given new answer → ⊥) → ⊥
-text_some world name bytes Given given none k = some_text world.held.registry name bytes (λ d. elim d [
+text_some setting world name bytes Given given none k = some_text world.held.registry name bytes (λ d. elim d [
   | inl read ↦ k _ _ (record { bytes = bytes; given = given; text = read.0; read = read.1; changed = refl; says = refl })
   | inr fault ↦ none.0 _ (BadLine bytes fault.0 fault.1 given fault.2)
 ])
 
-add_some : (world : World) (name file : List ℕ) → HasSome (adding world name file)
-add_some world name file none k =
+add_some : (setting : Setting) (world : World) (name file : List ℕ) → HasSome (adding setting world name file)
+add_some setting world name file none k =
     let there = file_there world.files file (λ a. none.1.0 _ (record { is = refl; there = a })) (λ t. none.1.1.0 _ (record { is = refl; there = t })) in
-    text_some world name there.0 (IsFile world.files file) there.1 none.1.1.1 k
+    text_some setting world name there.0 (IsFile world.files file) there.1 none.1.1.1 k
 
 -- ## Questions
 
@@ -73,6 +78,8 @@ add_some world name file none k =
 pub record QueryReadings : Type 0 where
   pub some_query : SomeQuery
   pub have_spans : HaveSpans
+  pub have_frequencies : HaveFrequencies
+  pub have_collocates : HaveCollocates
 
 -- a text that no check of its reading refuses is a query
 asked_query : (laws : QueryReadings) (scene : Scene) (cql : List ℕ) → NoneStands (query_checks scene cql) → (query : Query) × Reads scene cql (Ok query)
@@ -96,6 +103,30 @@ query_some laws scene cql none k =
     let found = laws.have_spans scene.images scene.registry scene.corpus asked.0 in
     k _ (record { query = asked.0; read = asked.1; spans = found.0; are = found.1; says = refl })
 
+-- an attribute that is declared has a number
+number_some : (scene : Scene) (attr : List ℕ) → (((number : ℕ) × (slice_get (attr_names scene.registry.attrs) number ≡ Some attr)) → ⊥) → IsDeclared scene attr → ⊥
+number_some scene attr k there = k (there.0, slice_get-get_or (attr_names scene.registry.attrs) there.0 attr there.1 ∙ ap Some there.2)
+
+-- a name that no check of a report refuses is declared
+attr_some : (scene : Scene) (attr cql : List ℕ) → NoneStands (report_checks scene attr cql) → (((number : ℕ) × (slice_get (attr_names scene.registry.attrs) number ≡ Some attr)) → ⊥) → ⊥
+attr_some scene attr cql none k = none.0 _ (record { is = refl; there = number_some scene attr k })
+
+frequencies_some : (laws : QueryReadings) (scene : Scene) (attr : List ℕ) (offset : ℤ) (cql : List ℕ) → NoneStands (report_checks scene attr cql) →
+    ((lines : List (List ℕ)) → (listing_frequencies scene attr offset cql).Answers lines → ⊥) → ⊥
+frequencies_some laws scene attr offset cql none k = attr_some scene attr cql none (λ at.
+    let asked = asked_query laws scene cql none.1 in
+    let found = laws.have_spans scene.images scene.registry scene.corpus asked.0 in
+    let made = laws.have_frequencies scene.images scene.registry scene.corpus found.0 at.0 offset in
+    k made.0 (record { query = asked.0; read = asked.1; spans = found.0; are = found.1; number = at.0; named = at.1; says = made.1 }))
+
+collocates_some : (laws : QueryReadings) (scene : Scene) (attr : List ℕ) (first last : ℤ) (least : ℕ) (cql : List ℕ) → NoneStands (report_checks scene attr cql) →
+    ((lines : List (List ℕ)) → (listing_collocates scene attr first last least cql).Answers lines → ⊥) → ⊥
+collocates_some laws scene attr first last least cql none k = attr_some scene attr cql none (λ at.
+    let asked = asked_query laws scene cql none.1 in
+    let found = laws.have_spans scene.images scene.registry scene.corpus asked.0 in
+    let made = laws.have_collocates scene.images scene.registry scene.corpus found.0 at.0 first last least in
+    k made.0 (record { query = asked.0; read = asked.1; spans = found.0; are = found.1; number = at.0; named = at.1; says = made.1 }))
+
 ask_some : (asked : Question) (world : World) → (NoneStands asked.checks → ((lines : List (List ℕ)) → asked.Answers lines → ⊥) → ⊥) → HasSome (asking asked world)
 ask_some asked world some none k = some none (λ lines a. k world (Lines lines) (record { lines = lines; answered = a; same = refl; says = refl }))
 
@@ -105,8 +136,8 @@ unbuilt_asked none k = none.0 _ (record { is = refl; there = tt })
 question_some : (laws : QueryReadings) (scene : Scene) (ask : Ask) → NoneStands (question scene ask).checks → ((lines : List (List ℕ)) → (question scene ask).Answers lines → ⊥) → ⊥
 question_some laws scene (command.Count cql) = count_some laws scene cql
 question_some laws scene (command.Query cql) = query_some laws scene cql
-question_some laws scene (command.Freq attr offset cql) = unbuilt_asked
-question_some laws scene (command.Colloc attr first last least cql) = unbuilt_asked
+question_some laws scene (command.Freq attr offset cql) = frequencies_some laws scene attr offset cql
+question_some laws scene (command.Colloc attr first last least cql) = collocates_some laws scene attr first last least cql
 question_some laws scene (command.Sketch least most lemma) = unbuilt_asked
 question_some laws scene (command.Thes most lemma) = unbuilt_asked
 
@@ -123,10 +154,10 @@ remove_some world name none k = either (Holds world.held name) (λ d. elim d [
 
 pub has_some : (laws : QueryReadings) (setting : Setting) (world : World) (given : Command) → HasSome (meaning setting world given)
 has_some laws setting world (command.Registry file) = registry_some setting world file
-has_some laws setting world (command.Text name body) = λ none k. text_some world name body (λ bytes. bytes ≡ body) refl none.1 k
-has_some laws setting world (command.Add name file) = add_some world name file
+has_some laws setting world (command.Text name body) = λ none k. text_some setting world name body (λ bytes. bytes ≡ body) refl none.1 k
+has_some laws setting world (command.Add name file) = add_some setting world name file
 has_some laws setting world (command.Generate name seed tokens) = λ none k.
-    text_some world name (generated_vertical name seed tokens) (λ bytes. bytes ≡ generated_vertical name seed tokens) refl none.1 k
+    text_some setting world name (generated_vertical name seed tokens) (λ bytes. bytes ≡ generated_vertical name seed tokens) refl none.1 k
 has_some laws setting world (command.Asks ask) = ask_some (question (scene_of setting world.held) ask) world (question_some laws (scene_of setting world.held) ask)
 has_some laws setting world (command.Grammar file) = unbuilt_some world
 has_some laws setting world (command.Rules body) = unbuilt_some world

@@ -1,5 +1,5 @@
 -- What is held stays valid.
-use Rattle.std.proofs.Common.{◌≡◌, ◌≢◌, ℕ, zero, suc, ◌+◌, ◌<◌, ◌≤◌, ◌⊎◌, inl, inr, Bool, true, false, not, List, [], ◌∷◌, ◌++◌, length, map, arith, refl, sym, ◌∙◌, ap, subst, append_assoc, get_or}
+use Rattle.std.proofs.Common.{◌≡◌, ◌≢◌, ℕ, zero, suc, ◌+◌, ◌<◌, ◌≤◌, ◌⊎◌, inl, inr, Bool, true, false, not, List, [], ◌∷◌, ◌++◌, length, map, None, arith, refl, sym, ◌∙◌, ap, subst, append_assoc, get_or}
 use Rattle.std.specs.Prelude.{◌&&◌}
 use Rattle.std.specs.List.{All, Any, Contains, sum_by}
 use Rattle.std.specs.Str.{bytes_eq}
@@ -10,17 +10,23 @@ use Rattle.std.proofs.lemmas.List.Elements.{All-nil, All-push, All-cons}
 use Rattle.std.proofs.lemmas.List.Quantifiers.{all_pairs_push}
 use Rattle.mt_text_spec.specs.Registries.{Registry, ValidRegistry, AreDistinct}
 use Rattle.mt_text_spec.specs.Texts.{Text, ValidText, total_tokens, corpus_texts_limit, corpus_tokens_limit}
+use Rattle.mt_text_spec.specs.Queries.{Grammar}
+use Rattle.mt_grammar_spec.specs.ValidGrammar.{ValidGrammar}
 use Rattle.mt_corpus_spec.specs.Groups.{ValidGroups, struck, without, all_texts}
-use Rattle.mt_session_spec.specs.World.{Held, Group, ValidHeld, Holds, IsFull, with_text, without_text, first_held, alone, live_texts, corpus_of, kept_texts}
+use Rattle.mt_session_spec.specs.World.{Held, Group, ValidHeld, IsGrammarOf, Holds, IsFull, with_text, without_text, with_grammar, first_held, alone, live_texts, corpus_of, kept_texts}
 use Rattle.mt_session_spec.specs.Registering.{with_registry}
 use Rattle.mt_session_laws.proofs.Standard.{standard_is_valid}
 
 none_differ : AreDistinct []
 none_differ = λ i j x y h. absurd (omega arith)
 
--- no groups are valid
-bare : (held : Held) → ValidRegistry held.registry → held.groups ≡ [] → ValidHeld held
-bare held valid none = record { registry = valid; groups = subst (ValidGroups held.registry) (sym none) (no_groups held.registry) }
+-- no groups and no grammar are valid
+bare : (held : Held) → ValidRegistry held.registry → held.groups ≡ [] → held.grammar ≡ None → ValidHeld held
+bare held valid none unruled = record {
+  registry = valid;
+  groups = subst (ValidGroups held.registry) (sym none) (no_groups held.registry);
+  grammar = subst (IsGrammarOf held.registry) (sym unruled) tt;
+}
   where
     no_groups : (registry : Registry) → ValidGroups registry []
     no_groups registry = record {
@@ -32,10 +38,13 @@ bare held valid none = record { registry = valid; groups = subst (ValidGroups he
     }
 
 pub first_valid : ValidHeld first_held
-first_valid = bare first_held standard_is_valid refl
+first_valid = bare first_held standard_is_valid refl refl
 
 pub registry_valid : (held : Held) (registry : Registry) → ValidRegistry registry → ValidHeld (with_registry held registry)
-registry_valid held registry valid = bare (with_registry held registry) valid refl
+registry_valid held registry valid = bare (with_registry held registry) valid refl refl
+
+pub grammar_valid : (held : Held) (grammar : Grammar) → ValidHeld held → ValidGrammar held.registry grammar → ValidHeld (with_grammar held grammar)
+grammar_valid held grammar valid ruled = record { registry = valid.registry; groups = valid.groups; grammar = ruled }
 
 -- ## A text more
 
@@ -94,6 +103,7 @@ text_valid held text valid one free room =
         short = rw kept (omega (arith, total, shorter));
         some = All-push (λ (group : Group). 0 < length group) held.groups (alone text) valid.groups.some (omega arith);
       };
+      grammar = valid.grammar;
     }
 
 -- ## A text less
@@ -176,6 +186,7 @@ without_valid held name valid =
         short = rw kept valid.groups.short;
         some = long_without name held.groups valid.groups.some;
       };
+      grammar = valid.grammar;
     }
 
 -- ## Texts by their names

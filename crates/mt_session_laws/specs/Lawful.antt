@@ -1,12 +1,10 @@
 -- What a command owes to the laws.
-use Rattle.std.specs.Prelude.{ℕ, ◌≡◌, ◌≤◌, false, List, [], ◌∷◌, length, count_by, Result}
+use Rattle.std.specs.Prelude.{ℕ, ◌≡◌, ◌≤◌, List, [], ◌∷◌, length, count_by, Result}
 use Rattle.std.specs.Str.{bytes_eq}
 use Rattle.mt_text_spec.specs.Registries.{Registry}
 use Rattle.mt_text_spec.specs.Queries.{Query}
-use Rattle.mt_query_spec.specs.Trees.{QueryTree, query_tokens}
-use Rattle.mt_query_spec.specs.Meaning.{query_of}
 use Rattle.mt_query_spec.specs.Measures.{nodes}
-use Rattle.mt_query_spec.specs.Contents.{patterns, written_patterns}
+use Rattle.mt_query_spec.specs.Contents.{patterns}
 use Rattle.mt_query_spec.specs.Verdicts.{Means, Refusal}
 use Rattle.mt_session_spec.specs.World.{World, ValidHeld}
 use Rattle.mt_session_spec.specs.Gains.{Gained, none_gained}
@@ -30,8 +28,8 @@ pub record KeepsValid (meant : Meaning) : Type 0 where
   pub accepted : NoneStands meant.checks → (new : World) (answer : Answer) → meant.Accepts new answer → ValidHeld new.held
   pub excepted : (gained : Gained) (new : World) (answer : Answer) → meant.Excepts gained new answer → ValidHeld new.held
 
--- An answer is no refusal, and an exception is one, which changes nothing that is held. Where nothing was gained, and no pattern that is asked for nests too deep, that
--- is want of memory.
+-- An answer is no refusal, and an exception is one, which changes nothing that is held. Where nothing was gained, and no pattern that is asked for nests too deep, it
+-- tells that memory ran out.
 pub record IsFair (meant : Meaning) (world : World) (Nests : Type 0) : Type 0 where
   pub accepted : (new : World) (line : List ℕ) → meant.Accepts new (Refused line) → ⊥
   pub kept : (gained : Gained) (new : World) (answer : Answer) → meant.Excepts gained new answer → new.held ≡ world.held
@@ -53,7 +51,7 @@ OneQuery = (registry : Registry) (default : ℕ) (text : List ℕ) (said other :
 abbrev pub SomeQuery : Type 0
 SomeQuery = (registry : Registry) (default : ℕ) (text : List ℕ) → (said : Result Query Refusal) × Means registry default text said
 
--- a query has the patterns that its tokens write, whatever the registry, and no more than it has nodes
+-- a text is one query only, and a query has no more patterns than it has nodes
 pub record PatternLaws : Type 0 where
-  pub as_written : (registry : Registry) (default : ℕ) (part : QueryTree) → patterns (query_of registry default part) ≡ written_patterns false (query_tokens part)
+  pub one_query : OneQuery
   pub few : (query : Query) → length (patterns query) ≤ nodes query

@@ -17,10 +17,9 @@ ghost use Rattle.mt_session_spec.specs.Laws.{
 };
 
 use mt_match_laws::{have_spans, spans_are_one};
-use mt_query_laws::{
-    contents_are_few, one_meaning as one_query, patterns_as_written, some_meaning as some_query,
-};
+use mt_query_laws::{contents_are_few, one_meaning as one_query, some_meaning as some_query};
 use mt_registry::{one_registry, one_registry_answer, one_registry_fault, valid_registries};
+use mt_report_laws::{collocates_are_one, frequencies_are_one, have_collocates, have_frequencies};
 use mt_vertical::{no_text_with_fault, one_fault, one_text, valid_texts};
 
 /// No command that can be said is without a meaning in a valid world.
@@ -29,6 +28,8 @@ pub fn some_meaning()
 {
     some_query();
     have_spans();
+    have_frequencies();
+    have_collocates();
 }
 
 /// No command has two meanings.
@@ -43,6 +44,8 @@ pub fn one_meaning()
     one_registry_answer();
     one_query();
     spans_are_one();
+    frequencies_are_one();
+    collocates_are_one();
 }
 
 /// A command leaves a valid world.
@@ -58,7 +61,7 @@ pub fn refused_keep()
     ensures { RefusedKeep }
 {}
 
-/// What is held is valid at first, with another text, without one and with another registry.
+/// What is held is valid at first, with another text, without one, with another registry and with another grammar.
 pub fn held_is_valid()
     ensures { HeldIsValid }
 {}
@@ -105,6 +108,6 @@ pub fn failures_are_gained()
 pub fn refusals_are_gained()
     ensures { RefusalsAreGained }
 {
-    patterns_as_written();
+    one_query();
     contents_are_few();
 }

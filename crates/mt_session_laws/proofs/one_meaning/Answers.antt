@@ -11,4 +11,6 @@ returns c = one_meaning (record {
   apart = c.one_registry_answer.ensures;
   one_query = c.one_meaning.ensures;
   one_spans = c.spans_are_one.ensures;
+  one_frequencies = c.frequencies_are_one.ensures;
+  one_collocates = c.collocates_are_one.ensures;
 })

@@ -2,4 +2,9 @@ use Rattle.mt_session_laws.proofs.Meanings.{some_meaning}
 use Rattle.mt_session_laws.proofs.some_meaning.Goals as goal
 
 pub returns : goal.returns
-returns c = some_meaning (record { some_query = c.some_meaning.ensures; have_spans = c.have_spans.ensures })
+returns c = some_meaning (record {
+  some_query = c.some_meaning.ensures;
+  have_spans = c.have_spans.ensures;
+  have_frequencies = c.have_frequencies.ensures;
+  have_collocates = c.have_collocates.ensures;
+})
