@@ -8,3 +8,4 @@ pub mod Turning
 pub mod Whole
 pub mod Listed
 pub mod OneByOne
+pub mod Blocked

@@ -42,7 +42,7 @@ fn rows_by_table<V: View>(
     maker.start();
     match add_labelled(maker, view, last, part, &mut entries) {
         Ok(()) => {
-            let result = rows_of_table(&entries, last, begins, text, room, out);
+            let result = rows_of_table(&entries, last, begins, text, room, &mut maker.block, out);
             maker.give(entries);
             match result {
                 Ok(()) => Ok(true),

@@ -8,6 +8,7 @@
 //! first, and how many shapes there may be: so nothing is made for an expression of which a part that is rare has no place, nor for one with too many shapes.
 #![tactic(auto)]
 
+mod blocks;
 mod finding;
 mod instances;
 mod lengths;

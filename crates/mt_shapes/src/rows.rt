@@ -11,6 +11,7 @@ ghost use Rattle.mt_automaton.specs.Windows.{FitsBehind};
 ghost use Rattle.mt_shapes.specs.Shapes.{row_of};
 ghost use Rattle.mt_shapes.specs.Tables.{Fine, IsRowBelow, IsRowOf};
 
+use crate::blocks::{are_unlabelled, rows_of_unlabelled, widen};
 use crate::shape::Shape;
 use crate::table::Entry;
 use mt_base::{NoMemory, Span};
@@ -18,7 +19,7 @@ use mt_places::Places;
 use mt_rows::{EvalError, Rows};
 
 /// Whether a match of an entry begins at a place and has a token.
-fn has_row(entry: &Entry, begin: u32) -> bool
+pub(crate) fn has_row(entry: &Entry, begin: u32) -> bool
     ensures yes { result ≡ true → (0 < entry.now.shape.length) × In entry.now.begins begin }
     ensures no { result ≡ false → 0 < entry.now.shape.length → ¬ In entry.now.begins begin }
 {
@@ -68,8 +69,33 @@ fn rows_at(
     Ok(())
 }
 
-/// Appends all rows of a table, ascending. All of them begin at places of a set.
+/// Appends all rows of a table, ascending. All of them begin at places of a set. What is in the block does not matter: it is used again.
 pub(crate) fn rows_of_table(
+    entries: &[Entry],
+    last: u32,
+    begins: &Places,
+    text: u32,
+    room: u32,
+    block: &mut Vec<Span>,
+    out: &mut Rows,
+) -> Result<(), EvalError>
+    requires few { last < 4294967295 }
+    requires fine { Fine last entries.now }
+    requires all { (row : SpecRow) → IsRowOf entries.now text row → In begins.now row.span.begin }
+    requires inside { (begin : _) → In begins.now begin → begin ≤ last }
+    ensures ok { OnOk result (Appends (IsRowOf entries.now text) room out.old out.new) }
+    ensures more { IsErrOf result TooMany → HasLonger (IsRowOf entries.now text) room }
+    ensures kept { OnErr result (Begins out.old out.new) }
+{
+    if are_unlabelled(entries) {
+        widen(block, entries.len())?;
+        return rows_of_unlabelled(entries, last, begins, text, room, block, out);
+    }
+    rows_one_by_one(entries, last, begins, text, room, out)
+}
+
+/// Appends all rows of a table, ascending, each by its shape. All of them begin at places of a set.
+fn rows_one_by_one(
     entries: &[Entry],
     last: u32,
     begins: &Places,

@@ -5,6 +5,7 @@ ghost use Rattle.std.specs.Prelude.{◌≡◌, []};
 use crate::refused::Refused;
 use crate::table::Entry;
 use mt_automaton::Pool;
+use mt_base::Span;
 use std::alloc::Global;
 
 /// How many entries a table has at most.
@@ -13,11 +14,12 @@ pub(crate) const MAX_ENTRIES: usize = 128;
 /// How many pairs of entries are joined for one text at most.
 const MAX_STEPS: u32 = 1024;
 
-/// Sets that are used again, and how many steps are left.
+/// Sets and a block of spans that are used again, and how many steps are left.
 #[derive(Drop)]
 pub(crate) struct Maker {
     alloc: Global,
     pub(crate) pool: Pool,
+    pub(crate) block: Vec<Span>,
     steps: u32,
 }
 
@@ -66,6 +68,7 @@ impl Work {
             maker: Maker {
                 alloc,
                 pool: Pool::new(alloc),
+                block: Vec::new(alloc),
                 steps: 0,
             },
             automaton: mt_automaton::Work::new(alloc),

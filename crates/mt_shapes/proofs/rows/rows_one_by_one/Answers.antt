@@ -2,7 +2,7 @@ use Rattle.std.proofs.Common.{◌≡◌, ◌≤◌, refl, Err, rules, arith}
 use Rattle.mt_rows.specs.declared.error.EvalError.TheVariants.{TooManyRows}
 use Rattle.mt_shapes.proofs.Bits.{in_room}
 use Rattle.mt_shapes.proofs.Listed.{no_begins, next_begin, all_begins, longer_than_room}
-use Rattle.mt_shapes.proofs.rows.rows_of_table.Goals as goal
+use Rattle.mt_shapes.proofs.rows.rows_one_by_one.Goals as goal
 
 pub loop-at-init : goal.loop-at-init
 loop-at-init c = record { count = refl; added = no_begins c.args.entries.now c.args.text c.args.room c.args.out.now }

@@ -2,7 +2,7 @@
 use Rattle.std.proofs.Common.{◌≡◌, ◌+◌, ◌-◌, ◌*◌, length}
 use Rattle.mt_rows.specs.Appends.{Appends}
 use Rattle.mt_shapes.specs.Tables.{BeginsBelow}
-use Rattle.mt_shapes.proofs.rows.rows_of_table.Given as goal
+use Rattle.mt_shapes.proofs.rows.rows_one_by_one.Given as goal
 
 abbrev pub invariant-loop-at : goal.invariant-loop-at
 invariant-loop-at l =
