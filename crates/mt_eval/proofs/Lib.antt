@@ -14,3 +14,5 @@ pub mod Walked
 pub mod Rowed
 pub mod Few
 pub mod Sought
+pub mod Instances
+pub mod Spanned

@@ -4,3 +4,4 @@ pub mod Rooms
 pub mod Sequences
 pub mod Walks
 pub mod Rarest
+pub mod Spans

@@ -20,6 +20,7 @@ ghost use Rattle.mt_eval.specs.Walks.{IsLeft, due, left_of};
 use super::rarest::{looked_by, positions};
 use super::scan::scan_text;
 use super::sequence::{Sequence, add_rows, is_sequence};
+use super::spans::{is_tag, rows_by_spans};
 use super::walk::Walk;
 use mt_automaton::{Automaton, Pool, labels_stand};
 use mt_base::Steps;
@@ -189,6 +190,9 @@ fn rows_by_places<L: Ledger>(
     ensures too_many { IsErrOf result EvalError.TooManyRows → PassesRoom asked.now.segment.now asked.now.texts.now (shape expr.now) room }
     ensures rises { steps.old ≤ steps.new }
 {
+    if is_tag(expr) {
+        return rows_by_spans(alloc, asked, expr, ready.tags.get(0).as_slice(), room);
+    }
     if !is_scanned(asked.segment, expr) {
         return rows_by_automaton(alloc, asked, expr, ready, room, steps);
     }

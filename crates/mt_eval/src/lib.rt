@@ -19,6 +19,7 @@ mod rarest;
 mod run;
 mod scan;
 mod sequence;
+mod spans;
 mod walk;
 
 use finding::Asked;

@@ -1,5 +1,5 @@
 -- The rows of the places that were looked at are added.
-use Rattle.std.proofs.Common.{◌≡◌, ℕ, ◌+◌, ◌≤◌, List, ◌++◌, length}
+use Rattle.std.proofs.Common.{◌≡◌, ◌≤◌, List, ◌++◌, length}
 use Rattle.mt_text_spec.specs.Texts.{Row}
 use Rattle.mt_text_spec.specs.Orders.{row_cmp}
 use Rattle.mt_match_spec.specs.Rows.{ListsAll}
