@@ -1,5 +1,5 @@
 -- Counts of calls, and images of values that were taken.
-use Rattle.std.proofs.Common.{◌≡◌, ℕ, ◌<◌, List, [], ◌∷◌, ◌++◌, length, OnOk, OnErr, IsSome, Option, Some, Result, Ok, Err, refl, sym, subst, arith}
+use Rattle.std.proofs.Common.{◌≡◌, ℕ, ◌<◌, List, [], ◌∷◌, ◌++◌, length, OnOk, OnErr, IfOk, IsSome, Option, Some, Result, Ok, Err, refl, sym, subst, arith}
 use Rattle.std.proofs.lemmas.List.Elements.{All-append, Contains-get_or}
 use Rattle.mt_text_spec.specs.Registries.{Registry, ValidRegistry, base_attr}
 use Rattle.mt_text_spec.specs.Texts.{Text}
@@ -32,8 +32,12 @@ taken_more law registry text tables images mappers valid are agree =
     same : (number base : ℕ) → number < length registry.attrs → (attr_at registry number).base ≡ Some base → image_by mappers (attr_at registry number).mapper ≡ images (attr_at registry number).mapper
     same number base l some = λ i value. (sym (agree.each (attr_at registry number) (Contains-get_or registry.attrs number (base_attr []) l) (some_is (attr_at registry number).base base some) value)) i
 
-pub taken_either : {E : Type 0} (law : ImagesAreDecoded) (old new : Corpus) (text : Text) (tables : Tables) (images : List ℕ → List ℕ → List ℕ) (mappers : List (List ℕ × (List ℕ → List ℕ))) (r : Result (Unit {0}) E) → ValidRegistry old.registry →
-    AreTablesOf (image_by mappers) old.registry (text ∷ []) tables → OnOk r (new.taken ≡ old.taken ++ images_in old.registry tables) → OnErr r (new ≡ old) → AgreeWith images mappers old.registry → AreImagesBy images old.taken → AreImagesBy images new.taken
-taken_either law old new text tables images mappers (Ok x) valid are ok err agree by =
-    subst (AreImagesBy images) (sym ok) (All-append (λ (each : Image). images each.mapper each.value ≡ each.image) old.taken (images_in old.registry tables) by (taken_more law old.registry text tables images mappers valid are agree))
-taken_either law old new text tables images mappers (Err x) valid are ok err agree by = subst (λ (c : Corpus). AreImagesBy images c.taken) (sym err) by
+pub images_taken : {E : Type 0} (law : ImagesAreDecoded) (registry : Registry) (text : Text) (images : List ℕ → List ℕ → List ℕ) (mappers : List (List ℕ × (List ℕ → List ℕ))) (r : Result Tables E) → ValidRegistry registry →
+    IfOk r (λ tables. AreTablesOf (image_by mappers) registry (text ∷ []) tables) → AgreeWith images mappers registry → IfOk r (λ tables. AreImagesBy images (images_in registry tables))
+images_taken law registry text images mappers (Ok tables) valid are agree = taken_more law registry text tables images mappers valid are agree
+images_taken law registry text images mappers (Err e) valid are agree = tt
+
+pub taken_either : {E : Type 0} (old new : Corpus) (more : List Image) (images : List ℕ → List ℕ → List ℕ) (r : Result (Unit {0}) E) → OnOk r (new.taken ≡ old.taken ++ more) → OnErr r (new ≡ old) →
+    AreImagesBy images more → AreImagesBy images old.taken → AreImagesBy images new.taken
+taken_either old new more images (Ok x) ok err its by = subst (AreImagesBy images) (sym ok) (All-append (λ (each : Image). images each.mapper each.value ≡ each.image) old.taken more by its)
+taken_either old new more images (Err x) ok err its by = subst (λ (c : Corpus). AreImagesBy images c.taken) (sym err) by

@@ -1,5 +1,5 @@
 -- What a corpus keeps, with one text more or one less.
-use Rattle.std.proofs.Common.{◌≡◌, ℕ, zero, suc, ◌+◌, ◌<◌, ◌≤◌, ◌==◌, not, Bool, true, false, cond, List, [], ◌∷◌, ◌++◌, length, set, get_or, is_some, IsTrue, Option, None, Some, refl, sym, ◌∙◌, ap, ap₂, subst, arith}
+use Rattle.std.proofs.Common.{◌≡◌, ℕ, zero, suc, ◌+◌, ◌<◌, ◌≤◌, ◌==◌, not, Bool, true, false, cond, List, [], ◌∷◌, ◌++◌, length, map, sum, set, get_or, is_some, IsTrue, Option, None, Some, refl, sym, ◌∙◌, ap, ap₂, subst, arith}
 use Rattle.std.specs.List.{All, AllZip, filter}
 use Rattle.std.specs.Str.{bytes_eq}
 use Rattle.std.proofs.lemmas.List.{length_push}
@@ -9,7 +9,7 @@ use Rattle.std.proofs.lemmas.Option.{slice_get_within}
 use Rattle.std.proofs.lemmas.Slice.Zip.{all_zipped_more}
 use Rattle.mt_text_spec.specs.Registries.{Registry, ValidRegistry}
 use Rattle.mt_text_spec.specs.Texts.{Text, ValidText, total_tokens}
-use Rattle.mt_segment_spec.specs.Tables.{Tables, AreTablesUnder}
+use Rattle.mt_segment_spec.specs.Tables.{Tables, AreTablesUnder, token_count}
 use Rattle.mt_corpus_spec.specs.Groups.{Group, HoldsName, IsFull, ValidGroups, alone, kept_texts, without}
 use Rattle.mt_corpus_spec.specs.Decoded.{groups_in}
 use Rattle.mt_decode_laws.specs.Laws.{TextsAreDecoded, NumbersAreLive}
@@ -41,6 +41,15 @@ under_one registry text tables vr v made = record {
     one : (k : ℕ) (d : Text) → k < 1 → ValidText registry (get_or (text ∷ []) k d)
     one zero d l = v
     one (suc k) d l = absurd (omega arith)
+
+-- the tables of a text by itself have its name and its length
+pub name_made : (registry : Registry) (text : Text) (tables : Tables) → IsMadeOf registry text tables → (get_or tables.texts 0 ([], 0)).0 ≡ text.name
+name_made registry text tables made = ap (λ (heads : List (List ℕ × ℕ)). (get_or heads 0 ([], 0)).0) made.are.texts
+
+pub tokens_made : (registry : Registry) (text : Text) (tables : Tables) → IsMadeOf registry text tables → token_count tables ≡ length text.tokens
+tokens_made registry text tables made =
+    let is = ap (λ (heads : List (List ℕ × ℕ)). sum (map (λ head. head.1) heads)) made.are.texts in
+    omega (arith, is)
 
 module _ (registry : Registry) (segments : List Tables) (live : List (List ℕ)) (places : List ℕ → Option (ℕ × ℕ)) (texts tokens : ℕ) (h : IsHeld registry segments live places texts tokens) where
   pub few_segments : length segments ≤ 65536

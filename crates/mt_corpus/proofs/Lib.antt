@@ -9,3 +9,4 @@ pub mod Empty
 pub mod Sizes
 pub mod Calls
 pub mod Kept
+pub mod Splitting

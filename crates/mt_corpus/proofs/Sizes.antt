@@ -18,7 +18,7 @@ use Rattle.mt_corpus.proofs.Has.{has_any}
 use Rattle.mt_corpus.proofs.Live.{text_at}
 use Rattle.mt_corpus.proofs.Segments.{decoded}
 
-at_mark : (texts : List Text) (first t : ℕ) (live : List ℕ) (text : Text) → slice_get (marked first texts live) t ≡ Some (text, true) → slice_get texts t ≡ Some text
+pub at_mark : (texts : List Text) (first t : ℕ) (live : List ℕ) (text : Text) → slice_get (marked first texts live) t ≡ Some (text, true) → slice_get texts t ≡ Some text
 at_mark [] first t live text e = cc
 at_mark (one ∷ texts) first zero live text e = ap (λ (m : Text × Bool). Some m.0) (same_Some _ (text, true) e)
 at_mark (one ∷ texts) first (suc t) live text e = at_mark texts (first + 1) t live text e

@@ -1,2 +1,4 @@
 pub mod Held
 pub mod Keeping
+pub mod Added
+pub mod Named

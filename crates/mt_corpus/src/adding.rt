@@ -3,6 +3,7 @@
 ghost use Rattle.std.specs.Cmp.Lexicographic.{pointwise};
 ghost use Rattle.std.specs.HashMap.{get};
 ghost use Rattle.std.specs.Prelude.{nat_eq, if◌then◌else◌, Some, ◌≡◌, ℕ, ◌+◌, ◌<◌, ◌≤◌, ◌↔◌, ◌⊎◌, [], ◌∷◌, ◌++◌, List as Items, length, map, OnOk, OnErr, IfOk, IsErrOf};
+ghost use Rattle.mt_text_spec.specs.Texts as spec;
 ghost use Rattle.mt_text_spec.specs.Texts.{ValidText};
 ghost use Rattle.mt_segment_spec.specs.Tables.{AreTablesOf, Tables};
 ghost use Rattle.mt_segment.specs.Mappers.{AreCalled, AreThere, calls_due, image_by, named};
@@ -10,6 +11,7 @@ ghost use Rattle.mt_corpus_spec.specs.Groups.{HoldsName, IsFull, alone};
 ghost use Rattle.mt_corpus_spec.specs.Images.{AreImagesBy};
 ghost use Rattle.mt_corpus_spec.specs.Decoded.{images_in};
 ghost use Rattle.mt_corpus.specs.Held.{IsMadeOf};
+ghost use Rattle.mt_corpus.specs.Added.{MayBeKept, SomeMayBeKept};
 ghost use Rattle.mt_corpus.specs.Keeping.{AgreeWith};
 
 use super::corpus::Corpus;
@@ -108,26 +110,37 @@ impl Corpus {
         ensures same { named M.called M.image mappers.new ≡ named M.called M.image mappers.old }
         ensures calls { (t : Tables) → AreTablesOf (image_by (named M.called M.image mappers.old)) self.old.registry (text ∷ []) t → AreCalled (calls_due (map M.called mappers.old) t.attrs self.old.registry.attrs) (map M.calls mappers.old) (map M.calls mappers.new) result }
     {
-        images_are_decoded();
-        let texts = [text];
-        let segment = Segment::build(self.alloc, &texts, &self.registry, mappers)?;
-        self.put(&texts[0], segment)
+        let segment = self.build(text, mappers)?;
+        self.keep(segment)
     }
 
-    /// Puts the segment of a text behind the others. Without memory nothing changes.
-    fn put(&mut self, text: &Text, segment: Segment) -> Result<(), NoMemory>
-        requires text { ValidText self.old.registry text.now }
-        requires segment { IsMadeOf self.old.registry text.now segment }
-        requires free { ¬ HoldsName self.old.groups text.now.name }
-        requires room { ¬ IsFull self.old.groups (length text.now.tokens) }
-        ensures ok { OnOk result (self.new.groups ≡ self.old.groups ++ alone text.now ∷ []) }
+    /// Builds the segment of a text, which may then be kept. The text itself is let go. Each mapper is called once for each distinct value of the base of each attribute
+    /// that is mapped by it, and no more often where memory runs out half-way.
+    pub fn build<M: Mapper>(&self, text: Text, mappers: &mut [M]) -> Result<Segment, NoMemory>
+        requires text { ValidText self.now.registry text }
+        requires mappers { AreThere (map M.called mappers.old) self.now.registry.attrs }
+        ensures made { IfOk result (IsMadeOf self.now.registry text) }
+        ensures images { (images : Items ℕ → Items ℕ → Items ℕ) → AgreeWith images (named M.called M.image mappers.old) self.now.registry → IfOk result (λ segment. AreImagesBy images (images_in self.now.registry segment)) }
+        ensures same { named M.called M.image mappers.new ≡ named M.called M.image mappers.old }
+        ensures calls { (t : Tables) → AreTablesOf (image_by (named M.called M.image mappers.old)) self.now.registry (text ∷ []) t → AreCalled (calls_due (map M.called mappers.old) t.attrs self.now.registry.attrs) (map M.calls mappers.old) (map M.calls mappers.new) result }
+    {
+        images_are_decoded();
+        let texts = [text];
+        Segment::build(self.alloc, &texts, &self.registry, mappers)
+    }
+
+    /// Keeps the segment of a text behind the others. Without memory nothing changes, and the segment is let go.
+    pub fn keep(&mut self, segment: Segment) -> Result<(), NoMemory>
+        requires { SomeMayBeKept self.old segment }
+        ensures ok { (text : spec.Text) → MayBeKept self.old text segment → OnOk result (self.new.groups ≡ self.old.groups ++ alone text ∷ []) }
         ensures registry { self.new.registry ≡ self.old.registry }
         ensures taken { OnOk result (self.new.taken ≡ self.old.taken ++ images_in self.old.registry segment) }
         ensures err { OnErr result (self.new ≡ self.old) }
     {
         texts_are_decoded();
         numbers_are_live();
-        let name = text.name().copy(self.alloc)?;
+        let tokens = segment.tokens() as usize;
+        let name = Value::new(self.alloc, segment.text_name(0))?;
         let live = first_alone(self.alloc)?;
         push_text(
             &mut self.segments,
@@ -138,7 +151,7 @@ impl Corpus {
             name,
         )?;
         self.texts += 1;
-        self.tokens += text.len();
+        self.tokens += tokens;
         Ok(())
     }
 }

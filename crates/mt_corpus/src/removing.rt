@@ -1,13 +1,15 @@
 //! Removing texts.
 
-ghost use Rattle.std.specs.Prelude.{◌≡◌, ◌==◌, ◌<◌, [], length, not, slice_set, slice_index_or, IfOk, OnOk, OnErr};
+ghost use Rattle.std.specs.Prelude.{◌≡◌, ◌==◌, ◌<◌, [], length, not, slice_set, slice_index_or, IfOk, IfSome, IfNone, OnOk, OnErr};
 ghost use Rattle.std.specs.List.{Any, filter};
 ghost use Rattle.mt_corpus_spec.specs.Groups.{HoldsName, corpus_of, without};
+ghost use Rattle.mt_corpus.specs.Named.{IsTextAt, SplitsAt};
 
 use super::corpus::Corpus;
 use super::error::NoSuchText;
 use mt_base::{List, Value};
-use mt_decode_laws::{numbers_are_live, texts_are_decoded};
+use mt_decode_laws::{images_are_decoded, numbers_are_live, texts_are_decoded};
+use mt_segment::Segment;
 use std::alloc::Global;
 
 /// Takes a number out.
@@ -45,9 +47,27 @@ fn drop_live(alloc: Global, live: &mut List<List<u32>>, place: usize, number: u3
 }
 
 impl Corpus {
+    /// Where the text of this name stands: its segment, and its number there.
+    pub fn find(&self, name: &Value) -> Option<(&Segment, u32)>
+        ensures found { IfSome result (λ place. IsTextAt self.now name.now place.0.now place.1) }
+        ensures none { IfNone result (¬ HoldsName self.now.groups name.now) }
+    {
+        texts_are_decoded();
+        numbers_are_live();
+        images_are_decoded();
+        match self.places.get(name) {
+            None => None,
+            Some(place) => {
+                let (segment, text) = *place;
+                Some((self.segments.get(segment as usize), text))
+            }
+        }
+    }
+
     /// Removes the text of this name, and says how many tokens it has. Its segment keeps it. It takes no memory.
     pub fn remove(&mut self, name: &Value) -> Result<u32, NoSuchText>
         ensures ok { OnOk result (self.new ≡ record self.old { groups = without name.now self.old.groups }) }
+        ensures split { OnOk result (SplitsAt self.old.groups name.now) }
         ensures tokens { IfOk result (λ tokens. Any (λ text. (text.name ≡ name.now) × (length text.tokens ≡ tokens)) (corpus_of self.old.groups)) }
         ensures none { OnErr result (¬ HoldsName self.old.groups name.now) }
         ensures err { OnErr result (self.new ≡ self.old) }

@@ -1,9 +1,11 @@
-use Rattle.std.proofs.Common.{◌∙◌, List, sym, ap, arith}
+use Rattle.std.proofs.Common.{◌∙◌, List, sym, ap, subst, arith}
 use Rattle.mt_text_spec.specs.Registries.{Registry}
 use Rattle.mt_corpus_spec.specs.Images.{Corpus, Image}
 use Rattle.mt_corpus_spec.specs.Groups.{Group, without}
 use Rattle.mt_corpus_spec.specs.Decoded.{groups_in, taken_in}
 use Rattle.mt_corpus.proofs.Holding.{both_long, groups_less, held_less, none_held, place_within}
+use Rattle.mt_corpus.specs.Named.{SplitsAt}
+use Rattle.mt_corpus.proofs.Splitting.{splits_there}
 use Rattle.mt_corpus.proofs.Sizes.{sized, text_within}
 use Rattle.mt_corpus.proofs.corpus.Corpus.remove.Goals as goal
 
@@ -42,3 +44,8 @@ pub returns-in-Some-clause-tokens : goal.returns-in-Some-clause-tokens
 returns-in-Some-clause-tokens c =
     sized c.texts_are_decoded.ensures c.numbers_are_live.ensures c.self.inside.registry c.self.inside.segments c.self.inside.live _ c.self.inside.texts c.self.inside.tokens c.self.invariant c.args.name.now c.in-Some.place.now c.in-Some.ensures.value
     c.args.self.now.groups c.get-in-Some.result.now c.text_bounds-begin.result.0 c.text_bounds-begin.result.1 (ap (λ (v : Corpus). v.groups) c.self.view_is) c.get-in-Some.ensures c.text_bounds-begin.ensures.begin c.text_bounds-begin.ensures.end
+
+pub returns-in-Some-clause-split : goal.returns-in-Some-clause-split
+returns-in-Some-clause-split c =
+    subst (λ (v : Corpus). SplitsAt v.groups c.args.name.now) c.self.view_is
+    (splits_there c.self.inside.registry c.self.inside.segments c.self.inside.live _ c.self.inside.texts c.self.inside.tokens c.self.invariant c.args.name.now c.in-Some.place.now c.in-Some.ensures.value)
