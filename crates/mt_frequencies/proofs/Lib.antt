@@ -1,7 +1,12 @@
 pub mod Counted
 pub mod Placed
+pub mod Windows
 pub mod Runs
 pub mod Nearby
 pub mod Rows
 pub mod Ordered
 pub mod Listed
+pub mod Places
+pub mod Texts
+pub mod Collocated
+pub mod Tiny

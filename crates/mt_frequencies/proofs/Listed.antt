@@ -36,7 +36,7 @@ is_there tally value some = from_member tally.values value (found tally.values t
 
 pub frequencies_listed : (images : Images) (registry : Registry) (corpus : List Text) (spans : List Span) (attr : ℕ) (distance : ℤ) (distances : List ℤ) (tally : Tallied) (all : List Frequency) →
     IsTally (values_by images registry corpus (record { attr = attr; distances = distances; behind_last = false })) spans (counts_in tally) → distances ≡ distance ∷ [] → IsDistinct (pointwise nat_eq) tally.values →
-    IsPermutation (map (frequency_of (counts_in tally)) (filter (is_counted (counts_in tally)) tally.values)) all → IsSorted frequency_cmp all →
+    IsPermutation (map (frequency_of (counts_in tally)) (filter (is_counted 0 (counts_in tally)) tally.values)) all → IsSorted frequency_cmp all →
     FrequencyText images registry corpus spans attr distance (number_line (length all) ∷ map frequency_line all)
 frequencies_listed images registry corpus spans attr distance distances tally all counts are distinct moved up = record { all = all; are = lists; says = refl }
   where
@@ -45,7 +45,7 @@ frequencies_listed images registry corpus spans attr distance distances tally al
 
     lists : ListsAll frequency_cmp (IsFrequency images registry corpus spans attr distance) all
     lists =
-        lists_all frequency_total (frequency_of (counts_in tally)) (λ v w. same_frequency (frequency_of (counts_in tally) v) (frequency_of (counts_in tally) w)) (is_counted (counts_in tally)) (IsFrequency images registry corpus spans attr distance)
+        lists_all frequency_total (frequency_of (counts_in tally)) (λ v w. same_frequency (frequency_of (counts_in tally) v) (frequency_of (counts_in tally) w)) (is_counted 0 (counts_in tally)) (IsFrequency images registry corpus spans attr distance)
         tally.values all distinct
         (λ v m kept. record { count = counted.spans v; some = below 0 (counts_in tally v).spans kept })
         (λ x is.

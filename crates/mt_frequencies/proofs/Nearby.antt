@@ -31,7 +31,7 @@ below m n e = by (cases_lt m n)
     by (inl l) = l
     by (inr l) = let no = not_less m n l in absurd cc
 
-places_within : (tokens first last : ℕ) (distances : List ℤ) → first ≤ tokens → AllByRecursion (λ p. p < tokens) (places_at tokens first last distances)
+pub places_within : (tokens first last : ℕ) (distances : List ℤ) → first ≤ tokens → AllByRecursion (λ p. p < tokens) (places_at tokens first last distances)
 places_within tokens first last [] l = tt
 places_within tokens first last (pos n ∷ distances) l =
     kept_in tokens (last + n) (places_at tokens first last distances) (nat_lt (last + n) tokens) (below (last + n) tokens) (places_within tokens first last distances l)

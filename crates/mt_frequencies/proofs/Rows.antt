@@ -52,3 +52,9 @@ module _ {X : Type 0} (made : List ℕ → X) (keep : List ℕ → Bool) (values
 pub entries_few : {X : Type 0} (made : List ℕ → X) (keep : List ℕ → Bool) (values : List (List ℕ)) (n : ℕ) (all : List X) → all ≡ map made (filter keep (take n values)) → length all ≤ n
 entries_few made keep values n all is =
     omega (arith, ap length is, length-map (filter keep (take n values)) made, length-filter keep (take n values), count_by-le-length keep (take n values), length-take n values)
+
+-- the parts of a line
+pub put_together : (out a b c d e o₁ o₂ o₃ o₄ o₅ : List ℕ) → o₁ ≡ out ++ a → o₂ ≡ o₁ ++ b → o₃ ≡ o₂ ++ c → o₄ ≡ o₃ ++ d → o₅ ≡ o₄ ++ e → o₅ ≡ out ++ ((a ++ b ++ c ++ d) ++ e)
+put_together out a b c d e o₁ o₂ o₃ o₄ o₅ e₁ e₂ e₃ e₄ e₅ =
+    let parts : o₅ ≡ ((((out ++ a) ++ b) ++ c) ++ d) ++ e = cc in
+    parts ∙ simp append_assoc

@@ -1,5 +1,5 @@
 -- Distances from a span.
-use Rattle.std.specs.Prelude.{ℕ, ℤ, pos, negsuc, ◌-◌, ◌≤◌, List, ◌++◌}
+use Rattle.std.specs.Prelude.{ℕ, ℤ, pos, negsuc, ◌+◌, ◌-◌, ◌≤◌, List, ◌++◌}
 use Rattle.mt_report_spec.specs.Near.{Near, numbers_from}
 use Rattle.mt_frequencies.specs.declared.distances.Distances.{Distances}
 use Rattle.mt_frequencies.specs.declared.distances.Near as own
@@ -21,6 +21,16 @@ pub record AreDistances (all : Distances) : Type 0 where
   pub left : 1 ≤ all.before_from
   pub before : all.before_from ≤ all.before_to
   pub behind : all.behind_from ≤ all.behind_to
+
+-- how far to the left a distance leads
+abbrev pub left_size : ℤ → ℕ
+left_size (pos n) = 0
+left_size (negsuc n) = n + 1
+
+-- how far to the right it leads
+abbrev pub right_size : ℤ → ℕ
+right_size (pos n) = n
+right_size (negsuc n) = 0
 
 -- what is looked at near a span
 abbrev pub near_of : own.Near → Near

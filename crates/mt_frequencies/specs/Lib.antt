@@ -1,3 +1,6 @@
 pub mod Tallies
 pub mod Distances
 pub mod Known
+pub mod Tokens
+pub mod Collocates
+pub mod Tiny

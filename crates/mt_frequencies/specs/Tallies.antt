@@ -49,9 +49,9 @@ pub record IsTally {X : Type 0} (near : X → List (List ℕ)) (seen : List X) (
 
 -- ## What is listed of a tally
 
--- whether a span was counted for a value
-abbrev pub is_counted : (List ℕ → Count) → (value : List ℕ) → Bool
-is_counted counts value = nat_lt 0 (counts value).spans
+-- whether more spans than so many were counted for a value
+abbrev pub is_counted : (more_than : ℕ) → (List ℕ → Count) → (value : List ℕ) → Bool
+is_counted more_than counts value = nat_lt more_than (counts value).spans
 
 -- a value with how many spans were counted for it
 abbrev pub frequency_of : (List ℕ → Count) → (value : List ℕ) → Frequency

@@ -1,8 +1,9 @@
 //! How far from a span values are looked at.
 
-ghost use Rattle.std.specs.Prelude.{◌≡◌, ◌+◌, ◌-◌, ◌^◌, ◌<◌, ◌≤◌, [], ◌∷◌, ◌++◌};
+ghost use Rattle.std.specs.Prelude.{◌≡◌, ◌+◌, ◌-◌, ◌^◌, ◌<◌, ◌≤◌, ◌≤ℤ◌, [], ◌∷◌, ◌++◌};
 ghost use Rattle.std.specs.List.{range_with_len};
-ghost use Rattle.mt_frequencies.specs.Distances.{AreDistances, distances_of, near_of};
+ghost use Rattle.mt_frequencies.specs.Distances.{AreDistances, distances_of, left_size, near_of, right_size};
+ghost use Rattle.mt_report_spec.specs.Near as near;
 ghost use Rattle.mt_report_spec.specs.Near.{last_token, places_at};
 
 use mt_base::Span;
@@ -67,6 +68,42 @@ pub(crate) fn at(distance: i32) -> Distances
             behind_from: size,
             behind_to: size + 1,
         }
+    }
+}
+
+/// The distances from the first to the last of them, without 0.
+pub(crate) fn window(from: i32, to: i32) -> Distances
+    requires { from ≤ℤ to }
+    ensures distances { distances_of result ≡ near.window from to }
+    ensures valid { AreDistances result }
+{
+    Distances {
+        before_from: to_left(to).max(1),
+        before_to: to_left(from) + 1,
+        behind_from: to_right(from).max(1),
+        behind_to: to_right(to) + 1,
+    }
+}
+
+/// How far to the left a distance leads.
+fn to_left(distance: i32) -> u32
+    ensures { result ≡ left_size distance }
+{
+    if distance < 0 {
+        distance.unsigned_abs()
+    } else {
+        0
+    }
+}
+
+/// How far to the right it leads.
+fn to_right(distance: i32) -> u32
+    ensures { result ≡ right_size distance }
+{
+    if distance > 0 {
+        distance.unsigned_abs()
+    } else {
+        0
     }
 }
 

@@ -1,6 +1,6 @@
 //! Frequency lists.
 
-ghost use Rattle.std.specs.Prelude.{◌≡◌, ◌<◌, ◌^◌, ◌∷◌, ◌++◌, List as Items, ℕ, IfOk, OnOk, OnErr, length, map, take, filter, nat_eq, IsPermutation, IsSorted};
+ghost use Rattle.std.specs.Prelude.{◌≡◌, ◌<◌, ◌^◌, ◌++◌, List as Items, ℕ, IfOk, OnOk, OnErr, length, map, filter, nat_eq, IsPermutation, IsSorted};
 ghost use Rattle.std.specs.List.{All, IsDistinct, flat_map};
 ghost use Rattle.std.specs.Cmp.Lexicographic.{pointwise};
 ghost use Rattle.mt_text_spec.specs.Lines.{closed};
@@ -8,73 +8,48 @@ ghost use Rattle.mt_text_spec.specs.Registries as registries;
 ghost use Rattle.mt_match_spec.specs.Values.{Images};
 ghost use Rattle.mt_corpus_spec.specs.Groups.{Group, corpus_of};
 ghost use Rattle.mt_report_spec.specs.Held.{LieInSome, StandFor};
-ghost use Rattle.mt_report_spec.specs.Counts.{FrequencyText, frequency_cmp, frequency_line, number_line};
+ghost use Rattle.mt_report_spec.specs.Counts.{FrequencyText, frequency_cmp};
 ghost use Rattle.mt_frequencies.specs.Tallies.{counts_in, frequency_of, is_counted};
 
 use super::distances::{Near, at};
 use super::entry::Frequency;
-use super::lines::{put_count, put_frequency};
+use super::lines::put_list;
 use super::spans::count_spans;
 use super::tally::Tally;
 use mt_base::{List, NoMemory, Span};
 use mt_segment::Segment;
 use std::alloc::Global;
 
-/// The values for which a span was counted, in the order of their numbers.
-fn counted<'a>(alloc: Global, tally: &'a Tally) -> Result<Vec<Frequency<'a>>, NoMemory>
-    ensures all { IfOk result (λ all. all.items ≡ map (frequency_of (counts_in tally.now)) (filter (is_counted (counts_in tally.now)) tally.now.values)) }
+/// The values for which more than so many spans were counted, in the order of their numbers.
+pub(crate) fn counted<'a>(
+    alloc: Global,
+    tally: &'a Tally,
+    more_than: u32,
+) -> Result<Vec<Frequency<'a>>, NoMemory>
+    ensures all { IfOk result (λ all. all.items ≡ map (frequency_of (counts_in tally.now)) (filter (is_counted more_than (counts_in tally.now)) tally.now.values)) }
     ensures few { IfOk result (λ all. length all.items < 2 ^ 32) }
     ensures distinct { IsDistinct (pointwise nat_eq) tally.now.values }
 {
     let mut all = Vec::new(alloc);
     for number in 0..tally.len() {
         let (value, spans) = tally.get(number);
-        if spans > 0 {
+        if spans > more_than {
             all.push(Frequency { value, spans })?;
         }
     }
     Ok(all)
 }
 
-/// The same, the most frequent first.
+/// The values for which a span was counted, the most frequent first.
 fn ranked<'a>(alloc: Global, tally: &'a Tally) -> Result<Vec<Frequency<'a>>, NoMemory>
-    ensures same { IfOk result (λ all. IsPermutation (map (frequency_of (counts_in tally.now)) (filter (is_counted (counts_in tally.now)) tally.now.values)) all.items) }
+    ensures same { IfOk result (λ all. IsPermutation (map (frequency_of (counts_in tally.now)) (filter (is_counted 0 (counts_in tally.now)) tally.now.values)) all.items) }
     ensures sorted { IfOk result (λ all. IsSorted frequency_cmp all.items) }
     ensures few { IfOk result (λ all. length all.items < 2 ^ 32) }
     ensures distinct { IsDistinct (pointwise nat_eq) tally.now.values }
 {
-    let mut all = counted(alloc, tally)?;
+    let mut all = counted(alloc, tally, 0)?;
     all.sort_unstable();
     Ok(all)
-}
-
-/// Appends the lines of a frequency list. Without memory a part of them may be there.
-fn put_all(all: &[Frequency], out: &mut List<u8>) -> Result<(), NoMemory>
-    requires { length all.now < 2 ^ 32 }
-    ensures ok { OnOk result (out.new ≡ out.old ++ flat_map closed (number_line (length all.now) ∷ map frequency_line all.now)) }
-    ensures err { OnErr result (take (length out.old) out.new ≡ out.old) }
-{
-    put_count(all.len() as u32, out)?;
-    for one in all {
-        put_frequency(one, out)?;
-    }
-    Ok(())
-}
-
-/// Appends the lines of a frequency list. Without memory nothing changes.
-fn put_list(all: &[Frequency], out: &mut List<u8>) -> Result<(), NoMemory>
-    requires { length all.now < 2 ^ 32 }
-    ensures ok { OnOk result (out.new ≡ out.old ++ flat_map closed (number_line (length all.now) ∷ map frequency_line all.now)) }
-    ensures err { OnErr result (out.new ≡ out.old) }
-{
-    let kept = out.len();
-    match put_all(all, out) {
-        Ok(()) => Ok(()),
-        Err(NoMemory) => {
-            out.truncate(kept);
-            Err(NoMemory)
-        }
-    }
 }
 
 /// Appends the frequency list of the values of an attribute so far from the begin of each span: the number of its lines, and a line for each value, the most

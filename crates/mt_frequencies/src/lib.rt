@@ -1,9 +1,11 @@
-//! How often each value stands near the spans of a query: frequency lists over a corpus in segments.
+//! How often each value stands near the spans of a query: frequency lists and collocations over a corpus in segments.
 //!
 //! Spans are numbered among the live texts of all segments, in order. Beside the segments stand, for each of them, the ascending numbers of its live texts.
 //! Values are counted by their numbers. Contracts speak of the texts for which the segments stand (`StandFor` of `mt_report_spec`).
 #![tactic(auto)]
 
+mod collocate;
+mod collocates;
 mod counting;
 mod distances;
 mod entry;
@@ -11,5 +13,9 @@ mod frequencies;
 mod lines;
 mod spans;
 mod tally;
+#[cfg(test)]
+mod tests;
+mod tokens;
 
+pub use collocates::collocations;
 pub use frequencies::frequency;
