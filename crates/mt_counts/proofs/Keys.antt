@@ -92,7 +92,7 @@ module _ (names words : List (List ℕ)) (entries : List ((ℕ × ℕ) × ℕ)) 
 
 -- ---- of a name with two words
 
-three_same : (name x y : List ℕ) (key : List ℕ × List ℕ × List ℕ) → is_three name x y key ≡ true → (name ≡ key.0) × (x ≡ key.1) × (y ≡ key.2)
+pub three_same : (name x y : List ℕ) (key : List ℕ × List ℕ × List ℕ) → is_three name x y key ≡ true → (name ≡ key.0) × (x ≡ key.1) × (y ≡ key.2)
 three_same name x y key h =
     let front = and_parts (bytes_eq name key.0 && bytes_eq x key.1) (bytes_eq y key.2) h in
     let parts = and_parts (bytes_eq name key.0) (bytes_eq x key.1) front.0 in

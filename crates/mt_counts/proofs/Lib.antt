@@ -10,3 +10,4 @@ pub mod Keys
 pub mod Taking
 pub mod Seconds
 pub mod Ascending
+pub mod Contexts

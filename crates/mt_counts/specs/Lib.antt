@@ -6,3 +6,4 @@ pub mod Counted
 pub mod Tables
 pub mod Building
 pub mod Listed
+pub mod Numbered

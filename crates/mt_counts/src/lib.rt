@@ -8,6 +8,7 @@ mod counts;
 mod listing;
 mod lowering;
 mod names;
+mod numbered;
 mod pairs;
 mod tables;
 mod tally;
@@ -15,6 +16,7 @@ mod tally;
 pub use builder::Counting;
 pub use counts::Counts;
 pub use listing::Head;
+pub use numbered::{Entry, Numbered};
 pub use pairs::Pair;
 
 fn shared<T: Send + Sync>() {}
@@ -24,5 +26,6 @@ pub fn are_shared() {
     shared::<Counts>();
     shared::<Counting>();
     shared::<Head>();
+    shared::<Numbered>();
     shared::<Pair>();
 }

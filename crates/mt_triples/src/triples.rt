@@ -1,10 +1,11 @@
 //! The counts of a sketch grammar over texts.
 
-ghost use Rattle.std.specs.Prelude.{List as Items, ◌++◌, [], IfOk, OnErr, OnOk};
+ghost use Rattle.std.specs.Prelude.{◌≡◌, List as Items, ◌++◌, [], IfOk, OnErr, OnOk};
 ghost use Rattle.mt_text_spec.specs.Registries as registries;
 ghost use Rattle.mt_text_spec.specs.Texts as texts;
 ghost use Rattle.mt_text_spec.specs.Queries as queries;
 ghost use Rattle.mt_match_spec.specs.Values.{Images};
+ghost use Rattle.mt_counts.specs.Numbered.{IsNumberingOf};
 ghost use Rattle.mt_counts.specs.Tallies.{ListsOnce};
 ghost use Rattle.mt_triples.specs.CountsOf.{AreCountsOf};
 ghost use Rattle.mt_triples.specs.Told.{AreFirstWordsIn, IsHeadIn, IsPairIn};
@@ -14,7 +15,7 @@ use super::{
 };
 use mt_base::{List, NoMemory, Value};
 use mt_count_laws::{one_count, one_unary_count};
-use mt_counts::{Counts, Head, Pair};
+use mt_counts::{Counts, Head, Numbered, Pair};
 use std::alloc::Global;
 use std::marker::Model;
 
@@ -40,6 +41,13 @@ impl Triples {
         Triples {
             counts: Counts::new(alloc),
         }
+    }
+
+    /// These counts. It takes no memory.
+    pub fn of_counts(counts: Counts) -> Self
+        ensures { result ≡ counts }
+    {
+        Triples { counts }
     }
 
     /// Adds the counts over other texts, at the cost of what those have. Out of memory, or where all counts together would be 2^64 or more, each count is as it was.
@@ -90,5 +98,19 @@ impl Triples {
     {
         one_count();
         self.counts.collocates(alloc, name, word)
+    }
+
+    /// The counts, whatever they are of. It takes no memory.
+    pub fn counts(&self) -> &Counts
+        ensures { result.now ≡ self.now }
+    {
+        &self.counts
+    }
+
+    /// The counts of two words by numbers. It takes no memory.
+    pub fn numbered(&self) -> Numbered<'_>
+        ensures { IsNumberingOf self.now result }
+    {
+        self.counts.numbered()
     }
 }
