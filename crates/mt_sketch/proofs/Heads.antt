@@ -1,5 +1,5 @@
 -- The names under which a lemma stands are its relations.
-use Rattle.std.proofs.Common.{◌≡◌, ◌≢◌, ℕ, ◌<◌, Bool, true, false, Some, None, List, [], ◌∷◌, map, refl, sym, ◌∙◌, ap, subst, arith, if◌then◌else◌}
+use Rattle.std.proofs.Common.{◌≡◌, ◌≢◌, ℕ, ◌<◌, false, List, map, refl, sym, ◌∙◌, ap, subst}
 use Rattle.std.specs.List.{Contains}
 use Rattle.std.specs.List.Sorted.{IsPermutation, IsSorted}
 use Rattle.std.specs.declared.cmp.Ordering.{Ordering}
@@ -8,18 +8,12 @@ use Rattle.std.specs.Ordering.{is_eq}
 use Rattle.std.specs.Cmp.{IsTotalOrder, on_total}
 use Rattle.std.proofs.lemmas.List.Sorted.{Contains-permutation, IsPermutation-sym}
 use Rattle.std.proofs.lemmas.Map.Keys.{IsDistinct-IsPermutation}
-use Rattle.mt_text_spec.specs.Registries.{Registry}
-use Rattle.mt_text_spec.specs.Texts.{Text}
-use Rattle.mt_text_spec.specs.Queries.{Grammar}
-use Rattle.mt_match_spec.specs.Values.{Images}
-use Rattle.mt_match_laws.proofs.Members.{Member, to_member, from_member}
-use Rattle.mt_count_laws.specs.Laws.{OneCount, OneUnaryCount}
+use Rattle.mt_match_laws.proofs.Members.{to_member, from_member}
 use Rattle.mt_counts.specs.Tallies.{ListsOnce}
-use Rattle.mt_counts.specs.Counted.{Counted, f_first, f1}
+use Rattle.mt_counts.specs.Counted.{Counted}
+use Rattle.mt_counts.specs.Listed.{IsHead}
 use Rattle.mt_counts.specs.declared.listing.Head.{Head}
-use Rattle.mt_triples.specs.CountsOf.{AreCountsOf}
-use Rattle.mt_triples.specs.Told.{IsHeadCount, IsHeadIn}
-use Rattle.mt_word_sketch_spec.specs.Sketches.{Heading, heading_cmp, heading_count, IsHeading}
+use Rattle.mt_word_sketch_spec.specs.Sketches.{heading_cmp, heading_count, IsHeading}
 use Rattle.mt_word_sketch_laws.proofs.Lists.{in_map, from_map, ascends_mapped}
 use Rattle.mt_word_sketch_laws.proofs.Orders.{heading_total, same_heading}
 use Rattle.mt_sketch.specs.Told.{frequencies_of, heading_of, IsHeadOf, AreHeadings}
@@ -32,17 +26,9 @@ head_cmp one other = heading_cmp (heading_of one) (heading_of other)
 pub head_total : IsTotalOrder head_cmp
 head_total = on_total heading_of heading_total
 
-module _ (images : Images) (registry : Registry) (grammar : Grammar) (corpus : List Text) (counted : Counted) (are : AreCountsOf images registry grammar corpus counted) (one : OneCount) (one_unary : OneUnaryCount) (lemma : List ℕ) where
-  count_on : (name : List ℕ) (unary : Bool) (count : ℕ) → IsHeadCount images registry grammar corpus name lemma unary count → count ≡ heading_count (frequencies_of counted) lemma (record { name = name; unary = unary })
-  count_on name true count h = one_unary images registry grammar corpus name (Some lemma) count (f1 counted name lemma) h (are.alone name lemma)
-  count_on name false count h = one images registry grammar corpus name (Some lemma) None count (f_first counted name lemma) h (are.first name lemma)
-
-  count_back : (name : List ℕ) (unary : Bool) → IsHeadCount images registry grammar corpus name lemma unary (heading_count (frequencies_of counted) lemma (record { name = name; unary = unary }))
-  count_back name true = are.alone name lemma
-  count_back name false = are.first name lemma
-
-  head_on : (head : Head) → IsHeadIn images registry grammar corpus lemma head → IsHeadOf (frequencies_of counted) lemma head
-  head_on head h = record { some = h.some; is = count_on head.name head.unary head.count h.is }
+module _ (counted : Counted) (lemma : List ℕ) where
+  head_on : (head : Head) → IsHead counted lemma head → IsHeadOf (frequencies_of counted) lemma head
+  head_on head h = record { some = h.some; is = h.is }
 
   -- how often a lemma stands under a name is one number
   same_head : (a b : Head) → IsHeadOf (frequencies_of counted) lemma a → IsHeadOf (frequencies_of counted) lemma b → heading_of a ≡ heading_of b → a ≡ b
@@ -58,7 +44,7 @@ module _ (images : Images) (registry : Registry) (grammar : Grammar) (corpus : L
       by Equal e = absurd (differ (same_head a b h k (same_heading (heading_of a) (heading_of b) e)))
       by Greater e = refl
 
-  pub headings_told : (old new : List Head) → ListsOnce (IsHeadIn images registry grammar corpus lemma) old → IsPermutation old new → IsSorted head_cmp new → AreHeadings (frequencies_of counted) lemma new
+  pub headings_told : (old new : List Head) → ListsOnce (IsHead counted lemma) old → IsPermutation old new → IsSorted head_cmp new → AreHeadings (frequencies_of counted) lemma new
   headings_told old new all moved sorted =
       let each_is : (head : Head) → Contains new head → IsHeadOf (frequencies_of counted) lemma head = λ head h. head_on head (all.only head (Contains-permutation new old head (IsPermutation-sym old new moved) h)) in
       let distinct = distinct_from (λ a b. is_eq (head_cmp a b)) (IsHeadOf (frequencies_of counted) lemma) apart old (λ head m. head_on head (all.only head (from_member old head m))) all.once in
@@ -74,7 +60,7 @@ module _ (images : Images) (registry : Registry) (grammar : Grammar) (corpus : L
               subst (IsHeading (frequencies_of counted) lemma) (sym from.is) some;
           each = λ heading some.
               let head : Head = record { name = heading.name; unary = heading.unary; count = heading_count (frequencies_of counted) lemma heading } in
-              let there : Contains new head = Contains-permutation old new head moved (all.each head (record { some = some; is = count_back heading.name heading.unary })) in
+              let there : Contains new head = Contains-permutation old new head moved (all.each head (record { some = some; is = refl })) in
               from_member (map heading_of new) heading (in_map heading_of new head (to_member new head there));
         };
       }

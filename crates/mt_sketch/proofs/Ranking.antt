@@ -1,30 +1,22 @@
 -- Pairs are ranked by their fractions, and those that are shown are the first.
-use Rattle.std.proofs.Common.{◌≡◌, ◌≢◌, ℕ, ◌+◌, ◌-◌, ◌*◌, ◌^◌, ◌<◌, ◌≤◌, ◌⊎◌, inl, inr, Bool, true, false, Some, None, List, [], ◌∷◌, ◌++◌, append-nil, append_assoc, map, take, nat_le, refl, sym, ◌∙◌, ap, ap₂, subst, arith, if◌then◌else◌, true≢false}
+use Rattle.std.proofs.Common.{◌≡◌, ◌≢◌, ℕ, ◌+◌, ◌-◌, ◌*◌, ◌^◌, ◌<◌, ◌≤◌, ◌⊎◌, inl, inr, Bool, true, false, List, [], ◌∷◌, ◌++◌, append-nil, append_assoc, map, nat_le, refl, sym, ◌∙◌, ap, ap₂, subst, arith, if◌then◌else◌, true≢false}
 use Rattle.std.specs.List.{All, AllByRecursion, Contains, IsDistinct}
 use Rattle.std.specs.Str.{bytes_eq}
 use Rattle.std.specs.Cmp.Lexicographic.{bytes_decides}
 use Rattle.std.proofs.lemmas.Bool.{leb-true, le-leb}
 use Rattle.std.proofs.lemmas.List.{take-map}
-use Rattle.std.proofs.lemmas.List.Elements.{Contains-append_left}
-use Rattle.mt_text_spec.specs.Registries.{Registry}
-use Rattle.mt_text_spec.specs.Texts.{Text}
-use Rattle.mt_text_spec.specs.Queries.{Grammar}
-use Rattle.mt_match_spec.specs.Values.{Images}
 use Rattle.mt_match_laws.proofs.Members.{Member, to_member, from_member}
-use Rattle.mt_count_laws.specs.Laws.{OneCount}
 use Rattle.mt_counts.specs.Tallies.{ListsOnce}
 use Rattle.mt_counts.specs.Counted.{Counted, f, f_first, f_second}
 use Rattle.mt_counts.specs.declared.pairs.Pair.{Pair}
-use Rattle.mt_triples.specs.CountsOf.{AreCountsOf}
-use Rattle.mt_triples.specs.Told.{IsPairIn}
+use Rattle.mt_counts.specs.Listed.{IsPair}
 use Rattle.mt_word_sketch_spec.specs.Ranks.{Ranked, rank_cmp, FirstRanked}
 use Rattle.mt_word_sketch_spec.specs.Order.{Weighed, ranked_of, weighed_cmp}
-use Rattle.mt_word_sketch_spec.specs.Frequencies.{Frequencies, AreFrequencies}
+use Rattle.mt_word_sketch_spec.specs.Frequencies.{Frequencies}
 use Rattle.mt_word_sketch_spec.specs.Sketches.{IsCollocate, collocate_rank}
-use Rattle.mt_word_sketch_laws.specs.Laws.{PairsAreWithin, IsWithinBoth}
 use Rattle.mt_word_sketch_laws.proofs.Lists.{in_map, from_map, in_first, ascends_alike, ascends_mapped}
 use Rattle.mt_ranks.specs.Bests.{AreDistinct}
-use Rattle.mt_sketch.specs.Told.{frequencies_of, weighed_of, candidates_of, IsSmall, IsCandidate, AreCandidates, AreShown}
+use Rattle.mt_sketch.specs.Told.{AreWithin, frequencies_of, weighed_of, candidates_of, IsSmall, IsCandidate, AreCandidates, AreShown}
 use Rattle.mt_sketch.proofs.Distinct.{distinct_from}
 
 -- ---- one pair more
@@ -125,33 +117,23 @@ distinct_candidates left least (p ∷ pairs) h = by (nat_le least p.both) (all_a
     by true above rest = (above, rest)
     by false above rest = rest
 
-module _ (images : Images) (registry : Registry) (grammar : Grammar) (corpus : List Text) (counted : Counted) (are : AreCountsOf images registry grammar corpus counted) (one : OneCount) (within : PairsAreWithin)
-    (name lemma : List ℕ) (left least : ℕ) (left_is : left ≡ f_first counted name lemma) (some_left : 0 < left) where
-  frequent : AreFrequencies images registry grammar corpus (frequencies_of counted)
-  frequent = record { both = are.both; first = are.first; second = are.second; alone = are.alone }
-
-  both_is : (pair : Pair) → IsPairIn images registry grammar corpus name lemma pair → pair.both ≡ f counted name lemma pair.word
-  both_is pair h = one images registry grammar corpus name (Some lemma) (Some pair.word) pair.both (f counted name lemma pair.word) h.both_is (are.both name lemma pair.word)
-
-  right_is : (pair : Pair) → IsPairIn images registry grammar corpus name lemma pair → pair.right ≡ f_second counted name pair.word
-  right_is pair h = one images registry grammar corpus name None (Some pair.word) pair.right (f_second counted name pair.word) h.right_is (are.second name pair.word)
-
-  same_pair : (p q : Pair) → IsPairIn images registry grammar corpus name lemma p → IsPairIn images registry grammar corpus name lemma q → p.word ≡ q.word → p ≡ q
+module _ (counted : Counted) (within : AreWithin counted) (name lemma : List ℕ) (left least : ℕ) (left_is : left ≡ f_first counted name lemma) (some_left : 0 < left) where
+  same_pair : (p q : Pair) → IsPair counted name lemma p → IsPair counted name lemma q → p.word ≡ q.word → p ≡ q
   same_pair p q h k e =
-      let both : p.both ≡ q.both = both_is p h ∙ ap (f counted name lemma) e ∙ sym (both_is q k) in
-      let right : p.right ≡ q.right = right_is p h ∙ ap (f_second counted name) e ∙ sym (right_is q k) in
+      let both : p.both ≡ q.both = h.both_is ∙ ap (f counted name lemma) e ∙ sym k.both_is in
+      let right : p.right ≡ q.right = h.right_is ∙ ap (f_second counted name) e ∙ sym k.right_is in
       λ i. record { word = e i; both = both i; right = right i }
 
-  apart : (p q : Pair) → IsPairIn images registry grammar corpus name lemma p → IsPairIn images registry grammar corpus name lemma q → p ≢ q → bytes_eq p.word q.word ≡ false
+  apart : (p q : Pair) → IsPair counted name lemma p → IsPair counted name lemma q → p ≢ q → bytes_eq p.word q.word ≡ false
   apart p q h k differ = by (bytes_eq p.word q.word) refl
     where
       by : (b : Bool) → bytes_eq p.word q.word ≡ b → b ≡ false
       by true e = absurd (differ (same_pair p q h k ((bytes_decides p.word q.word).0 e)))
       by false e = refl
 
-  pub candidates_told : (pairs : List Pair) (words : List Weighed) → ListsOnce (IsPairIn images registry grammar corpus name lemma) pairs → words ≡ candidates_of left least pairs → All IsSmall words → AreCandidates (frequencies_of counted) name lemma least words
+  pub candidates_told : (pairs : List Pair) (words : List Weighed) → ListsOnce (IsPair counted name lemma) pairs → words ≡ candidates_of left least pairs → All IsSmall words → AreCandidates (frequencies_of counted) name lemma least words
   candidates_told pairs words all is small =
-      let distinct = distinct_candidates left least pairs (distinct_from (λ (p q : Pair). bytes_eq p.word q.word) (IsPairIn images registry grammar corpus name lemma) apart pairs (λ pair m. all.only pair (from_member pairs pair m)) all.once) in
+      let distinct = distinct_candidates left least pairs (distinct_from (λ (p q : Pair). bytes_eq p.word q.word) (IsPair counted name lemma) apart pairs (λ pair m. all.only pair (from_member pairs pair m)) all.once) in
       record {
         distinct = subst AreDistinct (sym is) distinct;
         only = λ w h.
@@ -160,7 +142,7 @@ module _ (images : Images) (registry : Registry) (grammar : Grammar) (corpus : L
             candidate w t.pair t.is t.enough in_texts (is_small words w small h);
         each = λ word h.
             let pair : Pair = record { word = word; both = f counted name lemma word; right = f_second counted name word } in
-            let there = to_member pairs pair (all.each pair (record { some = h.some; both_is = are.both name lemma word; right_is = are.second name word })) in
+            let there = to_member pairs pair (all.each pair (record { some = h.some; both_is = refl; right_is = refl })) in
             let member = in_candidates left least pairs pair there h.enough in
             from_member (map (λ (w : Weighed). w.word) words) word (in_map (λ (w : Weighed). w.word) words (weighed_of left pair) (subst (λ (ws : List Weighed). Member (weighed_of left pair) ws) (sym is) member));
       }
@@ -168,16 +150,16 @@ module _ (images : Images) (registry : Registry) (grammar : Grammar) (corpus : L
       is_small : (ws : List Weighed) (w : Weighed) → All IsSmall ws → Contains ws w → IsSmall w
       is_small ws w h (k, l, e) = subst IsSmall e (h k w l)
 
-      candidate : (w : Weighed) (pair : Pair) → w ≡ weighed_of left pair → least ≤ pair.both → IsPairIn images registry grammar corpus name lemma pair → IsSmall w → IsCandidate (frequencies_of counted) name lemma least w
+      candidate : (w : Weighed) (pair : Pair) → w ≡ weighed_of left pair → least ≤ pair.both → IsPair counted name lemma pair → IsSmall w → IsCandidate (frequencies_of counted) name lemma least w
       candidate w pair is enough h small =
           let word : w.word ≡ pair.word = ap (λ (v : Weighed). v.word) is in
           let part : w.part ≡ 2 * pair.both = ap (λ (v : Weighed). v.part) is in
           let less : w.less_one ≡ left + pair.right - 1 = ap (λ (v : Weighed). v.less_one) is in
-          let both : pair.both ≡ f counted name lemma w.word = both_is pair h ∙ ap (f counted name lemma) (sym word) in
-          let right : pair.right ≡ f_second counted name w.word = right_is pair h ∙ ap (f_second counted name) (sym word) in
+          let both : pair.both ≡ f counted name lemma w.word = h.both_is ∙ ap (f counted name lemma) (sym word) in
+          let right : pair.right ≡ f_second counted name w.word = h.right_is ∙ ap (f_second counted name) (sym word) in
           let parts : w.part ≡ 2 * f counted name lemma w.word = omega (arith, part, both) in
           let wholes : w.less_one + 1 ≡ f_first counted name lemma + f_second counted name w.word = omega (arith, less, right, left_is, some_left) in
-          let bounds = within images registry grammar corpus (frequencies_of counted) frequent name lemma w.word in
+          let bounds = within name lemma w.word in
           let first : f counted name lemma w.word ≤ f_first counted name lemma = bounds.first in
           let second : f counted name lemma w.word ≤ f_second counted name w.word = bounds.second in
           let some = h.some in

@@ -1,6 +1,6 @@
 -- The lines of a relation, and those of the whole sketch.
-use Rattle.std.proofs.Common.{◌≡◌, ℕ, ◌+◌, ◌*◌, ◌/◌, ◌<◌, ◌≤◌, ℤ, Bool, true, false, Result, Ok, Err, IfOk, List, [], ◌∷◌, ◌++◌, length, map, take, codes, get_or, append-nil, append_assoc, refl, sym, ◌∙◌, ap, ap₂, subst, arith}
-use Rattle.std.specs.List.{All, AllZip, Contains, flat_map}
+use Rattle.std.proofs.Common.{◌≡◌, ℕ, ◌*◌, ◌/◌, ◌<◌, ◌≤◌, Bool, true, false, Result, Ok, Err, IfOk, List, [], ◌∷◌, ◌++◌, length, map, take, codes, get_or, append-nil, append_assoc, refl, sym, ◌∙◌, ap, ap₂, subst, arith}
+use Rattle.std.specs.List.{All, Contains, flat_map}
 use Rattle.std.specs.Fmt.{decimal}
 use Rattle.std.proofs.lemmas.List.{length-map, take_all}
 use Rattle.mt_text_spec.specs.Lines.{closed}
@@ -14,9 +14,9 @@ use Rattle.mt_counts.specs.Counted.{Counted}
 use Rattle.mt_counts.specs.declared.listing.Head.{Head}
 use Rattle.mt_triples.specs.CountsOf.{AreCountsOf}
 use Rattle.mt_word_sketch_spec.specs.Ranks.{Ranked, number_line}
-use Rattle.mt_word_sketch_spec.specs.Order.{Weighed, ranked_of}
+use Rattle.mt_word_sketch_spec.specs.Order.{Weighed}
 use Rattle.mt_word_sketch_spec.specs.Frequencies.{Frequencies}
-use Rattle.mt_word_sketch_spec.specs.Sketches.{Heading, heading_count, heading_line, IsCollocateLine, LinesBy, RelationLines, BinaryLines}
+use Rattle.mt_word_sketch_spec.specs.Sketches.{heading_line, IsCollocateLine, LinesBy, RelationLines, BinaryLines}
 use Rattle.mt_sketch.specs.Told.{frequencies_of, heading_of, heading_text, IsHeadOf, AreHeadings, IsCandidate, AreShown, IsScored, IsLineOf, AppendsLines, AppendsEach, IsSketchReply}
 use Rattle.mt_sketch.proofs.Distinct.{at_index}
 use Rattle.mt_sketch.proofs.Writing.{AppendsBlocks, zip_mapped, zip_so}

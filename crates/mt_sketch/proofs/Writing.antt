@@ -1,12 +1,12 @@
 -- Lines that are written one after another.
-use Rattle.std.proofs.Common.{◌≡◌, ℕ, ◌+◌, ◌*◌, ◌/◌, ◌<◌, ◌≤◌, ◌⊎◌, inl, inr, ℤ, List, [], ◌∷◌, ◌++◌, length, map, take, get_or, append-nil, append_assoc, refl, sym, ◌∙◌, ap, ap₂, subst, arith}
-use Rattle.std.specs.List.{AllZip, Contains, flat_map}
+use Rattle.std.proofs.Common.{◌≡◌, ℕ, ◌+◌, ◌/◌, ◌<◌, inl, inr, ℤ, List, [], ◌∷◌, ◌++◌, length, map, take, get_or, append-nil, append_assoc, refl, sym, ◌∙◌, ap, subst}
+use Rattle.std.specs.List.{AllZip, flat_map}
 use Rattle.std.specs.Fmt.{decimal}
 use Rattle.std.proofs.lemmas.List.{take_more, flat_map_more}
 use Rattle.std.proofs.lemmas.Grind.{flat_map-append}
 use Rattle.std.proofs.lemmas.Slice.Zip.{all_zipped_more}
 use Rattle.mt_text_spec.specs.Lines.{closed}
-use Rattle.mt_match_laws.proofs.Members.{Member, to_member, from_member}
+use Rattle.mt_match_laws.proofs.Members.{Member}
 use Rattle.mt_sketch_spec.specs.Score.{IsScore, sixteenths_text}
 use Rattle.mt_word_sketch_spec.specs.Ranks.{Ranked}
 use Rattle.mt_word_sketch_spec.specs.Order.{Weighed, ranked_of}

@@ -1,6 +1,6 @@
 -- What tables of counts tell of a lemma, and how its sketch is written.
-use Rattle.std.specs.Prelude.{ℕ, ◌≡◌, ◌+◌, ◌-◌, ◌*◌, ◌/◌, ◌^◌, ◌<◌, ◌≤◌, ℤ, Bool, if◌then◌else◌, nat_le, List, [], ◌∷◌, ◌++◌, map}
-use Rattle.std.specs.List.{All, AllZip, Contains, flat_map}
+use Rattle.std.specs.Prelude.{ℕ, ◌≡◌, ◌+◌, ◌-◌, ◌*◌, ◌/◌, ◌^◌, ◌<◌, ℤ, if◌then◌else◌, nat_le, List, [], ◌∷◌, ◌++◌, map}
+use Rattle.std.specs.List.{AllZip, Contains, flat_map}
 use Rattle.std.specs.Fmt.{decimal}
 use Rattle.mt_text_spec.specs.Lines.{closed}
 use Rattle.mt_text_spec.specs.Registries.{Registry}
@@ -13,10 +13,11 @@ use Rattle.mt_counts.specs.Counted.{Counted, f, f_first, f_second, f1}
 use Rattle.mt_counts.specs.declared.listing.Head.{Head}
 use Rattle.mt_counts.specs.declared.pairs.Pair.{Pair}
 use Rattle.mt_triples.specs.CountsOf.{AreCountsOf}
-use Rattle.mt_word_sketch_spec.specs.Ranks.{Ranked, FirstRanked}
+use Rattle.mt_word_sketch_spec.specs.Ranks.{FirstRanked}
 use Rattle.mt_word_sketch_spec.specs.Order.{Weighed, ranked_of}
 use Rattle.mt_word_sketch_spec.specs.Frequencies.{Frequencies}
 use Rattle.mt_word_sketch_spec.specs.Sketches.{Heading, heading_cmp, heading_count, IsHeading, IsCollocate, collocate_rank, Sketch}
+use Rattle.mt_word_sketch_laws.specs.Laws.{IsWithinBoth}
 use Rattle.mt_ranks.specs.Bests.{AreDistinct}
 
 -- ## What the tables tell
@@ -32,6 +33,10 @@ pub record AreOfSome (counted : Counted) : Type 0 where
 -- the same counts as functions
 abbrev pub frequencies_of : Counted → Frequencies
 frequencies_of counted = record { both = f counted; first = f_first counted; second = f_second counted; alone = f1 counted }
+
+-- two words stand together no more often than each does by itself
+abbrev pub AreWithin : Counted → Type 0
+AreWithin counted = (name x y : List ℕ) → IsWithinBoth (frequencies_of counted) name x y
 
 -- ## Relations
 

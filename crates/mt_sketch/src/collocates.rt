@@ -2,14 +2,12 @@
 
 ghost use Rattle.std.specs.Prelude.{◌≡◌, ◌<◌, IfOk};
 ghost use Rattle.std.specs.List.{All};
-ghost use Rattle.mt_sketch.specs.Told.{AreCandidates, AreOfSome, AreShown, IsSmall, candidates_of, frequencies_of, weighed_of};
+ghost use Rattle.mt_sketch.specs.Told.{AreCandidates, AreShown, AreWithin, IsSmall, candidates_of, frequencies_of, weighed_of};
 
 use mt_base::{List, NoMemory, Value};
-use mt_count_laws::one_count;
 use mt_counts::Pair;
 use mt_ranks::{RankedWord, first};
 use mt_triples::Triples;
-use mt_word_sketch_laws::pairs_are_within;
 use std::alloc::Global;
 
 /// The collocates of a lemma in a binary relation in which it stands so often, those that are shown, in the order of their ranks.
@@ -22,7 +20,7 @@ pub(crate) fn shown(
     least: u32,
     max: u32,
 ) -> Result<List<RankedWord>, NoMemory>
-    requires counts { AreOfSome triples.now }
+    requires within { AreWithin triples.now }
     requires left { left ≡ (frequencies_of triples.now).first name.now lemma.now }
     requires some { 0 < left }
     ensures { IfOk result (AreShown (frequencies_of triples.now) name.now lemma.now least max) }
@@ -40,14 +38,12 @@ fn candidates(
     left: u64,
     least: u32,
 ) -> Result<List<RankedWord>, NoMemory>
-    requires counts { AreOfSome triples.now }
+    requires within { AreWithin triples.now }
     requires left { left ≡ (frequencies_of triples.now).first name.now lemma.now }
     requires some { 0 < left }
     ensures { IfOk result (AreCandidates (frequencies_of triples.now) name.now lemma.now least) }
 {
-    one_count();
-    pairs_are_within();
-    let pairs = triples.collocates(alloc, name, lemma)?;
+    let pairs = triples.counts().collocates(alloc, name, lemma)?;
     ranked(alloc, pairs, left, least)
 }
 

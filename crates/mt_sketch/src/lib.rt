@@ -6,4 +6,4 @@ mod lines;
 mod relations;
 mod reply;
 
-pub use reply::sketch;
+pub use reply::{counts_are_within, sketch};

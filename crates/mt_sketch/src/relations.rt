@@ -2,10 +2,9 @@
 
 ghost use Rattle.std.specs.Prelude.{◌≡◌, IfOk};
 ghost use Rattle.mt_word_sketch_spec.specs.Sketches.{heading_cmp};
-ghost use Rattle.mt_sketch.specs.Told.{AreHeadings, AreOfSome, frequencies_of, heading_of};
+ghost use Rattle.mt_sketch.specs.Told.{AreHeadings, frequencies_of, heading_of};
 
 use mt_base::{List, NoMemory};
-use mt_count_laws::{one_count, one_unary_count};
 use mt_counts::Head;
 use mt_triples::Triples;
 use std::alloc::Global;
@@ -17,12 +16,9 @@ pub(crate) fn headings(
     triples: &Triples,
     lemma: &str,
 ) -> Result<List<Head>, NoMemory>
-    requires { AreOfSome triples.now }
     ensures { IfOk result (AreHeadings (frequencies_of triples.now) lemma.now) }
 {
-    one_count();
-    one_unary_count();
-    let mut heads = triples.heads(alloc, lemma)?.into_vec();
+    let mut heads = triples.counts().heads(alloc, lemma)?.into_vec();
     heads.sort_unstable_by(|one, other| compare(one, other));
     Ok(List::from_vec(heads))
 }

@@ -6,10 +6,11 @@ ghost use Rattle.mt_text_spec.specs.Registries as registries;
 ghost use Rattle.mt_text_spec.specs.Texts as texts;
 ghost use Rattle.mt_text_spec.specs.Queries as queries;
 ghost use Rattle.mt_match_spec.specs.Values.{Images};
+ghost use Rattle.mt_counts.specs.Counted.{Counted};
 ghost use Rattle.mt_triples.specs.CountsOf.{AreCountsOf};
 ghost use Rattle.mt_word_sketch_spec.specs.Ranks.{number_line};
 ghost use Rattle.mt_word_sketch_spec.specs.Sketches.{RelationLines};
-ghost use Rattle.mt_sketch.specs.Told.{AppendsLines, AreOfSome, IsHeadOf, IsSketchReply, frequencies_of, heading_of};
+ghost use Rattle.mt_sketch.specs.Told.{AppendsLines, AreOfSome, AreWithin, IsHeadOf, IsSketchReply, frequencies_of, heading_of};
 
 use super::collocates::shown;
 use super::lines::{put_heading, put_number, put_words};
@@ -17,6 +18,7 @@ use super::relations::headings;
 use mt_base::{List, NoMemory};
 use mt_counts::Head;
 use mt_triples::Triples;
+use mt_word_sketch_laws::pairs_are_within;
 use std::alloc::Global;
 
 /// The lines of the sketch of a lemma: its relations, and in each binary one the first `max` words that stand beside it at least `least` times. It costs by how many relations and
@@ -30,6 +32,29 @@ pub fn sketch(
     max: u32,
 ) -> Result<List<u8>, NoMemory>
     requires { AreOfSome triples.now }
+    ensures { (images : Images) (registry : registries.Registry) (grammar : queries.Grammar) (corpus : Items texts.Text) → AreCountsOf images registry grammar corpus triples.now
+        → IfOk result (IsSketchReply images registry grammar corpus lemma.now least max) }
+{
+    counts_are_within();
+    sketch_within(alloc, triples, lemma, least, max)
+}
+
+/// That counts of texts are within one another.
+pub fn counts_are_within()
+    ensures { (counted : Counted) → AreOfSome counted → AreWithin counted }
+{
+    pairs_are_within();
+}
+
+/// The same of any counts that are within one another.
+pub(crate) fn sketch_within(
+    alloc: Global,
+    triples: &Triples,
+    lemma: &str,
+    least: u32,
+    max: u32,
+) -> Result<List<u8>, NoMemory>
+    requires { AreWithin triples.now }
     ensures { (images : Images) (registry : registries.Registry) (grammar : queries.Grammar) (corpus : Items texts.Text) → AreCountsOf images registry grammar corpus triples.now
         → IfOk result (IsSketchReply images registry grammar corpus lemma.now least max) }
 {
@@ -62,7 +87,7 @@ fn put_relation(
     max: u32,
     out: &mut List<u8>,
 ) -> Result<(), NoMemory>
-    requires counts { AreOfSome triples.now }
+    requires within { AreWithin triples.now }
     requires heading { IsHeadOf (frequencies_of triples.now) lemma.now heading.now }
     ensures { OnOk result (AppendsLines (RelationLines (frequencies_of triples.now) lemma.now least max (heading_of heading.now)) out.old out.new) }
 {

@@ -1,8 +1,7 @@
 use Rattle.mt_triples.proofs.Telling.{if_ok_so}
-use Rattle.std.proofs.Common.{List, ℕ}
 use Rattle.std.specs.List.{Contains}
 use Rattle.mt_word_sketch_spec.specs.Ranks.{FirstRanked}
-use Rattle.mt_word_sketch_spec.specs.Order.{Weighed, ranked_of}
+use Rattle.mt_word_sketch_spec.specs.Order.{ranked_of}
 use Rattle.mt_sketch.specs.Told.{AreShown, frequencies_of}
 use Rattle.mt_sketch.proofs.Ranking.{shown_told}
 use Rattle.mt_sketch.proofs.collocates.shown.Goals as goal

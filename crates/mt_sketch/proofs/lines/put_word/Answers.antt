@@ -1,4 +1,4 @@
-use Rattle.std.proofs.Common.{◌∙◌, ap, ◌++◌, List, ℕ, ℤ, w32, FitsSigned, rules}
+use Rattle.std.proofs.Common.{◌∙◌, ap, ◌++◌, ℤ, w32, FitsSigned, rules}
 use Rattle.std.proofs.lemmas.Int.{to_z-of_z}
 use Rattle.mt_sketch_spec.specs.Score.{sixteenths_text}
 use Rattle.mt_triples.proofs.Telling.{ok_so}

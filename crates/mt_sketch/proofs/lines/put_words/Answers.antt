@@ -1,4 +1,3 @@
-use Rattle.std.proofs.Common.{arith}
 use Rattle.mt_sketch.specs.Told.{IsLineOf}
 use Rattle.mt_sketch.proofs.Writing.{one_more}
 use Rattle.mt_sketch.proofs.lines.put_words.Goals as goal

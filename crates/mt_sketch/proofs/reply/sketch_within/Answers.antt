@@ -1,12 +1,10 @@
-use Rattle.std.proofs.Common.{List, ℕ, sym, subst, arith, ◌<◌, length, get_or, ◌≡◌, ◌∙◌, ap, take}
+use Rattle.std.proofs.Common.{List, ℕ}
 use Rattle.mt_counts.specs.declared.listing.Head.{Head}
-use Rattle.mt_match_laws.proofs.Members.{from_member}
 use Rattle.mt_word_sketch_spec.specs.Sketches.{RelationLines}
-use Rattle.mt_sketch.specs.Told.{IsHeadOf, frequencies_of, heading_of}
-use Rattle.mt_sketch.proofs.Distinct.{at_index}
-use Rattle.mt_sketch.proofs.Writing.{AppendsBlocks, block_more}
+use Rattle.mt_sketch.specs.Told.{frequencies_of, heading_of}
+use Rattle.mt_sketch.proofs.Writing.{block_more}
 use Rattle.mt_sketch.proofs.Telling.{head_at, reply_told, whole}
-use Rattle.mt_sketch.proofs.reply.sketch.Goals as goal
+use Rattle.mt_sketch.proofs.reply.sketch_within.Goals as goal
 
 pub put_relation-requires-clause-heading : goal.put_relation-requires-clause-heading
 put_relation-requires-clause-heading c =

@@ -4,7 +4,7 @@ use Rattle.mt_counts.specs.declared.listing.Head.{Head}
 use Rattle.mt_word_sketch_spec.specs.Sketches.{RelationLines}
 use Rattle.mt_sketch.specs.Told.{frequencies_of, heading_of}
 use Rattle.mt_sketch.proofs.Writing.{AppendsBlocks}
-use Rattle.mt_sketch.proofs.reply.sketch.Given as goal
+use Rattle.mt_sketch.proofs.reply.sketch_within.Given as goal
 
 abbrev pub invariant-loop-heading : goal.invariant-loop-heading
 invariant-loop-heading l =
