@@ -1,0 +1,4 @@
+pub mod Scores
+pub mod Sums
+pub mod Building
+pub mod Told
