@@ -1,0 +1,82 @@
+use Rattle.std.proofs.Common.{rules, ◌≡◌, ◌<◌, ◌≤◌, ◌∙◌, ◌++◌, List, [], ◌∷◌, length, take, get_or, Err, IsErrOf, sym, ap, subst, arith}
+use Rattle.mt_text_spec.specs.Texts.{Text}
+use Rattle.mt_text_spec.specs.Queries.{Relation}
+use Rattle.mt_match_spec.specs.Values.{Images}
+use Rattle.mt_instances.specs.Laws.{AreOfLines, Line}
+use Rattle.mt_grammar_counts.specs.Collecting.{IsReadyRelation, lines_of}
+use Rattle.mt_grammar_counts.specs.Told.{AllFit, HasNoRoom, Tells}
+use Rattle.mt_grammar_counts.specs.declared.error.CountError.{CountError}
+use Rattle.mt_grammar_counts.specs.declared.error.CountError.TheVariants.{TooManyRows}
+use Rattle.mt_grammar_counts.proofs.Parts.{all_at, as_long, both_at, parts_more, parts_whole}
+use Rattle.mt_grammar_counts.proofs.LineLists.{all_more, all_none, all_room, gives_more, gives_none, no_room_at, still_known}
+use Rattle.mt_grammar_counts.proofs.lines.add_lines.Goals as goal
+
+pub loop-i-init : goal.loop-i-init
+loop-i-init g c = record {
+  only = gives_none c.args.collector.now;
+  given = λ images of tells before. before;
+  fit = λ images of tells. all_none images c.args.text.now.registry.now of;
+}
+
+pub get-ready-requires : goal.get-ready-requires
+get-ready-requires g c =
+    let long = as_long (IsReadyRelation c.args.text.now.segment.now) c.args.grammar.now.relations c.args.prepared.now c.requires.prepared in
+    omega (arith, long, c.loop-i-test.true, c.len-i-end.ensures, ap length c.relations-relations.ensures)
+
+pub add_relation-requires-clause-fit : goal.add_relation-requires-clause-fit
+add_relation-requires-clause-fit g c =
+    let all = c.args.grammar.now.relations in
+    let r = c.get-relation.result.now in
+    let i = c.loop-i.i in
+    all_at (AllFit c.args.text.now.registry.now) all i r c.requires.fit (omega (arith, c.loop-i-test.true, c.len-i-end.ensures, ap length c.relations-relations.ensures)) (c.get-relation.ensures ∙ ap (λ (rs : List Relation). get_or rs i r) c.relations-relations.ensures)
+
+pub add_relation-requires-clause-prepared : goal.add_relation-requires-clause-prepared
+add_relation-requires-clause-prepared g c =
+    let all = c.args.grammar.now.relations in
+    let r = c.get-relation.result.now in
+    let i = c.loop-i.i in
+    both_at (IsReadyRelation c.args.text.now.segment.now) all c.args.prepared.now i r c.get-ready.result.now c.requires.prepared (omega (arith, c.loop-i-test.true, c.len-i-end.ensures, ap length c.relations-relations.ensures))
+    (c.get-relation.ensures ∙ ap (λ (rs : List Relation). get_or rs i r) c.relations-relations.ensures) c.get-ready.ensures
+
+pub add_relation-requires-clause-known : goal.add_relation-requires-clause-known
+add_relation-requires-clause-known g c = still_known c.args.text.now.segment.now c.args.text.now.registry.now.ws_attr c.args.text.now.number c.args.collector.now c.loop-i.collector c.loop-i.invariant.only c.requires.known
+
+pub returns-in_err-add_relation-clause-only : goal.returns-in_err-add_relation-clause-only
+returns-in_err-add_relation-clause-only g c = gives_more c.args.collector.now c.loop-i.collector c.add_relation.new.collector c.loop-i.invariant.only c.add_relation.ensures.only
+
+pub returns-in_err-add_relation-clause-too_many : goal.returns-in_err-add_relation-clause-too_many
+returns-in_err-add_relation-clause-too_many g c =
+    let all = c.args.grammar.now.relations in
+    let r = c.get-relation.result.now in
+    let i = c.loop-i.i in
+    let text = c.args.text.now in
+    let k : (images : Images) (of : Text) → Tells images text.registry.now text.segment.now text.number of → IsErrOf {T = Unit {0}} {E = CountError} (Err c.in_err-add_relation.field-0.0) TooManyRows → HasNoRoom images text.registry.now c.args.grammar.now (of ∷ []) =
+    λ images of tells h.
+    no_room_at images text.registry.now of c.args.grammar.now i r (omega (arith, c.loop-i-test.true, c.len-i-end.ensures, ap length c.relations-relations.ensures)) (c.get-relation.ensures ∙ ap (λ (rs : List Relation). get_or rs i r) c.relations-relations.ensures)
+    (c.in_err-add_relation.ensures.too_many images of tells h) in
+    search (rules, k)
+
+pub loop-i-preserved : goal.loop-i-preserved
+loop-i-preserved g c =
+    let all = c.args.grammar.now.relations in
+    let r = c.get-relation.result.now in
+    let i = c.loop-i.i in
+    let text = c.args.text.now in
+    let l : i < length all = omega (arith, c.loop-i-test.true, c.len-i-end.ensures, ap length c.relations-relations.ensures) in
+    let at = c.get-relation.ensures ∙ ap (λ (rs : List Relation). get_or rs i r) c.relations-relations.ensures in
+    record {
+      only = gives_more c.args.collector.now c.loop-i.collector c.add_relation.new.collector c.loop-i.invariant.only c.add_relation.ensures.only;
+      given = λ images of tells before.
+          subst (λ (ls : List Line). AreOfLines images text.registry.now of ls c.add_relation.new.collector.given) (sym (parts_more lines_of all i r l at))
+          (c.in_ok-add_relation.ensures.given images of _ tells (c.loop-i.invariant.given images of tells before));
+      fit = λ images of tells. all_more images text.registry.now of all i r l at (c.loop-i.invariant.fit images of tells) (c.in_ok-add_relation.ensures.room images of tells);
+    }
+
+pub returns-clause-given : goal.returns-clause-given
+returns-clause-given g c = λ images of tells before.
+    subst (λ (ls : List Line). AreOfLines images c.args.text.now.registry.now of ls c.loop-i.collector.given)
+    (parts_whole lines_of c.args.grammar.now.relations c.loop-i.i (omega (arith, c.loop-i-test.false, c.len-i-end.ensures, ap length c.relations-relations.ensures))) (c.loop-i.invariant.given images of tells before)
+
+pub returns-clause-room : goal.returns-clause-room
+returns-clause-room g c = λ images of tells.
+    all_room images c.args.text.now.registry.now of c.args.grammar.now c.loop-i.i (omega (arith, c.loop-i-test.false, c.len-i-end.ensures, ap length c.relations-relations.ensures)) (c.loop-i.invariant.fit images of tells)

@@ -1,0 +1,26 @@
+//! The counts of a sketch grammar over texts that stand in segments: over the texts of a corpus, and over one text that is added to it or goes from it.
+//!
+//! The patterns of a grammar are built once and asked for each segment. Each text is evaluated by itself, and a row is told to the collector of instances with the
+//! relation that its query stands under.
+#![tactic(auto)]
+
+mod asked;
+mod counting;
+mod error;
+mod lines;
+mod patterns;
+mod prepared;
+mod query;
+mod segments;
+mod texts;
+
+pub use counting::{count_added, count_corpus, count_named};
+pub use error::CountError;
+pub use patterns::GrammarPatterns;
+
+fn shared<T: Send + Sync>() {}
+
+/// That threads may share what an error says is proved by this function.
+pub fn are_shared() {
+    shared::<CountError>();
+}

@@ -1,0 +1,152 @@
+//! Counting texts of a segment, one after another.
+
+ghost use Rattle.std.specs.Prelude.{◌≡◌, ℕ, [], ◌∷◌, ◌++◌, ◌<◌, length, List as Items, OnOk, IsErrOf};
+ghost use Rattle.std.specs.List.{All};
+ghost use Rattle.mt_text_spec.specs.Texts as texts;
+ghost use Rattle.mt_match_spec.specs.Values.{Images};
+ghost use Rattle.mt_count_spec.specs.Counts.{HasRoom};
+ghost use Rattle.mt_segment_spec.specs.Tables.{AreTablesUnder};
+ghost use Rattle.mt_eval.specs.Runs.{AreTexts};
+ghost use Rattle.mt_triples.specs.CountsOf.{AreCountsOf};
+ghost use Rattle.mt_grammar_counts.specs.Collecting.{IsFresh, IsReadyGrammar, Knows};
+ghost use Rattle.mt_grammar_counts.specs.Told.{AllFit, HasNoRoom, IsTextIn, TellAll, Tells};
+
+use super::error::CountError;
+use super::lines::add_lines;
+use super::query::TextOf;
+use mt_base::{List, NoMemory, Registry, Steps};
+use mt_grammar::Grammar;
+use mt_instances::{Collector, none_are_given, text_is_counted};
+use mt_prepare::Prepared;
+use mt_segment::Segment;
+use mt_segment_laws::{numbers_stand_for_values, tokens_stand_in_texts};
+use std::alloc::Global;
+use std::sync::ledger::Ledger;
+
+/// Tells the collector the number of the value at each place of a text.
+fn add_places<L: Ledger>(
+    text: &TextOf<'_>,
+    collector: &mut Collector<'_>,
+    steps: &mut Steps<L>,
+) -> Result<(), NoMemory>
+    requires text { IsTextIn text.now.registry.now text.now.segment.now text.now.number text.now.listed.now }
+    requires fresh { IsFresh text.now.segment.now text.now.registry.now.ws_attr collector.old }
+    ensures known { OnOk result (Knows text.now.segment.now text.now.registry.now.ws_attr text.now.number collector.new) }
+    ensures given { OnOk result (collector.new.given ≡ []) }
+    ensures counted { collector.new.counted ≡ collector.old.counted }
+{
+    let attr = text.registry.ws_attr();
+    let (begin, end) = text.segment.text_bounds(text.number);
+    for place in begin..end {
+        let number = text.segment.value_id(attr, place, steps);
+        collector.add_place(number)?;
+    }
+    Ok(())
+}
+
+/// Counts a text.
+fn add_text<L: Ledger>(
+    alloc: Global,
+    grammar: &Grammar,
+    prepared: &List<List<Prepared>>,
+    text: &TextOf<'_>,
+    collector: &mut Collector<'_>,
+    rooms: &mut List<u32>,
+    steps: &mut Steps<L>,
+) -> Result<(), CountError>
+    requires text { IsTextIn text.now.registry.now text.now.segment.now text.now.number text.now.listed.now }
+    requires fit { All (AllFit text.now.registry.now) grammar.now.relations }
+    requires prepared { IsReadyGrammar text.now.segment.now grammar.now prepared.now }
+    requires fresh { IsFresh text.now.segment.now text.now.registry.now.ws_attr collector.old }
+    ensures fresh { OnOk result (IsFresh text.now.segment.now text.now.registry.now.ws_attr collector.new) }
+    ensures counts { (images : Images) (of : texts.Text) (done : Items texts.Text) → Tells images text.now.registry.now text.now.segment.now text.now.number of
+        → AreCountsOf images text.now.registry.now grammar.now done collector.old.counted
+        → OnOk result (AreCountsOf images text.now.registry.now grammar.now (done ++ of ∷ []) collector.new.counted) }
+    ensures room { (images : Images) (of : texts.Text) → Tells images text.now.registry.now text.now.segment.now text.now.number of
+        → OnOk result (HasRoom images text.now.registry.now grammar.now (of ∷ [])) }
+    ensures too_many { (images : Images) (of : texts.Text) → Tells images text.now.registry.now text.now.segment.now text.now.number of
+        → IsErrOf result CountError.TooManyRows → HasNoRoom images text.now.registry.now grammar.now (of ∷ []) }
+{
+    none_are_given();
+    text_is_counted();
+    numbers_stand_for_values();
+    tokens_stand_in_texts();
+    add_places(text, collector, steps)?;
+    add_lines(alloc, grammar, prepared, text, collector, rooms, steps)?;
+    collector.finish_text()?;
+    Ok(())
+}
+
+/// Makes a list one of this number alone.
+fn list_alone(listed: &mut List<u32>, number: u32) -> Result<(), NoMemory>
+    ensures { OnOk result (listed.new ≡ number ∷ []) }
+{
+    listed.truncate(0);
+    listed.push(number)
+}
+
+/// Counts the text of a segment that has this number.
+fn add_number<L: Ledger>(
+    alloc: Global,
+    registry: &Registry,
+    grammar: &Grammar,
+    prepared: &List<List<Prepared>>,
+    segment: &Segment,
+    number: u32,
+    collector: &mut Collector<'_>,
+    listed: &mut List<u32>,
+    rooms: &mut List<u32>,
+    steps: &mut Steps<L>,
+) -> Result<(), CountError>
+    requires under { AreTablesUnder registry.now segment.now }
+    requires number { number < length segment.now.texts }
+    requires fit { All (AllFit registry.now) grammar.now.relations }
+    requires prepared { IsReadyGrammar segment.now grammar.now prepared.now }
+    requires fresh { IsFresh segment.now registry.now.ws_attr collector.old }
+    ensures fresh { OnOk result (IsFresh segment.now registry.now.ws_attr collector.new) }
+    ensures counts { (images : Images) (of : texts.Text) (done : Items texts.Text) → Tells images registry.now segment.now number of → AreCountsOf images registry.now grammar.now done collector.old.counted
+        → OnOk result (AreCountsOf images registry.now grammar.now (done ++ of ∷ []) collector.new.counted) }
+    ensures room { (images : Images) (of : texts.Text) → Tells images registry.now segment.now number of → OnOk result (HasRoom images registry.now grammar.now (of ∷ [])) }
+    ensures too_many { (images : Images) (of : texts.Text) → Tells images registry.now segment.now number of → IsErrOf result CountError.TooManyRows → HasNoRoom images registry.now grammar.now (of ∷ []) }
+{
+    list_alone(listed, number)?;
+    let text = TextOf {
+        registry,
+        segment,
+        number,
+        listed,
+    };
+    add_text(alloc, grammar, prepared, &text, collector, rooms, steps)
+}
+
+/// Counts the texts of a segment that have these numbers, each by itself.
+pub(crate) fn add_texts<L: Ledger>(
+    alloc: Global,
+    registry: &Registry,
+    grammar: &Grammar,
+    prepared: &List<List<Prepared>>,
+    segment: &Segment,
+    numbers: &[u32],
+    collector: &mut Collector<'_>,
+    listed: &mut List<u32>,
+    rooms: &mut List<u32>,
+    steps: &mut Steps<L>,
+) -> Result<(), CountError>
+    requires under { AreTablesUnder registry.now segment.now }
+    requires numbers { AreTexts segment.now numbers.now }
+    requires fit { All (AllFit registry.now) grammar.now.relations }
+    requires prepared { IsReadyGrammar segment.now grammar.now prepared.now }
+    requires fresh { IsFresh segment.now registry.now.ws_attr collector.old }
+    ensures counts { (images : Images) (of : Items texts.Text) (done : Items texts.Text) → TellAll images registry.now segment.now numbers.now of → AreCountsOf images registry.now grammar.now done collector.old.counted
+        → OnOk result (AreCountsOf images registry.now grammar.now (done ++ of) collector.new.counted) }
+    ensures room { (images : Images) (of : Items texts.Text) → TellAll images registry.now segment.now numbers.now of → OnOk result (HasRoom images registry.now grammar.now of) }
+    ensures too_many { (images : Images) (of : Items texts.Text) → TellAll images registry.now segment.now numbers.now of → IsErrOf result CountError.TooManyRows → HasNoRoom images registry.now grammar.now of }
+{
+    for k in 0..numbers.len() {
+        let number = numbers[k];
+        add_number(
+            alloc, registry, grammar, prepared, segment, number, collector, listed, rooms, steps,
+        )?;
+    }
+    Ok(())
+}
