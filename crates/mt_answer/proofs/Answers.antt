@@ -20,8 +20,8 @@ use Rattle.mt_report_spec.specs.Held.{LiesIn}
 use Rattle.mt_report_spec.specs.Lines.{query_lines}
 use Rattle.mt_script_spec.specs.Commands.{Ask, Count, Query}
 use Rattle.mt_session_spec.specs.Answers.{Refused, Lines as LinesAnswer}
-use Rattle.mt_session_spec.specs.Counting.{Counts, counting, number_line}
-use Rattle.mt_session_spec.specs.Querying.{ListsSpans, querying}
+use Rattle.mt_session_spec.specs.Counting.{counting, number_line}
+use Rattle.mt_session_spec.specs.Querying.{querying}
 use Rattle.mt_session_spec.specs.Steps.{AskAnswered}
 use Rattle.mt_answer.specs.declared.reply.Reply.{Reply}
 use Rattle.mt_answer.specs.declared.reply.Reply.TheVariants.{Lines, NoMemory}
@@ -56,7 +56,7 @@ has_rows one corpus cql query rows read whole kept few = record {
 -- ## Spans
 
 -- the spans of the rows that a query keeps are its spans
-spans_of : (images : Images) (registry : Registry) (corpus : List Text) (query : QueryOf) (rows : List Row) (spans : List Span) → Kept images registry corpus query rows →
+pub spans_of : (images : Images) (registry : Registry) (corpus : List Text) (query : QueryOf) (rows : List Row) (spans : List Span) → Kept images registry corpus query rows →
     ListsAll span_cmp (IsSpanIn rows) spans → Spans images registry corpus query spans
 spans_of images registry corpus query rows spans kept all = lists_alike span_cmp (IsSpanIn rows) (IsSpan images registry corpus query) spans
     (λ span h. record { labels = h.labels; keeps = kept.only (record { span = span; labels = h.labels }) h.contains })
@@ -140,7 +140,7 @@ count_declines corpus cql old new declined reply declines g = record {
   more = declines.more;
   answers = λ images grammar agree.
       let scene = seen images corpus grammar in
-      tells scene cql (gained_of declines.refused) (Counts scene cql) declined reply (declines.stands images grammar agree) g;
+      tells (counting scene cql) (gained_of declines.refused) declined reply (declines.stands images grammar agree) g;
 }
 
 pub query_declines : (corpus : Corpus) (cql : List ℕ) (old new : List (List ℕ)) (declined : Declined) (reply : Reply) → DeclinesQuery corpus cql old new declined →
@@ -150,7 +150,7 @@ query_declines corpus cql old new declined reply declines g = record {
   more = declines.more;
   answers = λ images grammar agree.
       let scene = seen images corpus grammar in
-      tells scene cql (gained_of declines.refused) (ListsSpans scene cql) declined reply (declines.stands images grammar agree) g;
+      tells (querying scene cql) (gained_of declines.refused) declined reply (declines.stands images grammar agree) g;
 }
 
 pub count_starves : (corpus : Corpus) (cql : List ℕ) (old : List (List ℕ)) → AnswersAsk corpus (Count cql) old old NoMemory

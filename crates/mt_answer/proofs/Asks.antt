@@ -1,5 +1,5 @@
 -- What the replies to questions mean.
-use Rattle.std.proofs.Common.{◌≡◌, ℕ, ◌⊎◌, inl, inr, List, [], Option, refl, sym, append-nil}
+use Rattle.std.proofs.Common.{◌≡◌, ℕ, ℤ, ◌⊎◌, inl, inr, List, [], Option, refl, sym, append-nil}
 use Rattle.mt_text_spec.specs.Queries.{Grammar}
 use Rattle.mt_text_spec.specs.Lines.{closed}
 use Rattle.mt_match_spec.specs.Values.{Images}
@@ -44,13 +44,14 @@ unbuilt : (reply : Reply) → Given (Refused (refusal_line BadCommand)) reply �
 unbuilt reply g = declined unbuilt_question (gained_of []) BadCommand reply (inl (record { is = refl; there = tt })) g
 
 pub unbuilt_ask : (corpus : Corpus) (old : List (List ℕ)) (given : RustAsk) (reply : Reply) → ((cql : List ℕ) → given ≡ ask.Count cql → ⊥) → ((cql : List ℕ) → given ≡ ask.Query cql → ⊥) →
+    ((attr : List ℕ) (offset : ℤ) (cql : List ℕ) → given ≡ ask.Freq attr offset cql → ⊥) → ((attr : List ℕ) (first last : ℤ) (least : ℕ) (cql : List ℕ) → given ≡ ask.Colloc attr first last least cql → ⊥) →
     Given (Refused (refusal_line BadCommand)) reply → AnswersAsk corpus (ask_of given) old old reply
-unbuilt_ask corpus old (ask.Count cql) reply no_count no_query g = absurd (no_count cql refl)
-unbuilt_ask corpus old (ask.Query cql) reply no_count no_query g = absurd (no_query cql refl)
-unbuilt_ask corpus old (ask.Freq attr offset cql) reply no_count no_query g = unasked corpus (ask_of (ask.Freq attr offset cql)) old reply (λ images grammar. unbuilt reply g)
-unbuilt_ask corpus old (ask.Colloc attr first last least cql) reply no_count no_query g = unasked corpus (ask_of (ask.Colloc attr first last least cql)) old reply (λ images grammar. unbuilt reply g)
-unbuilt_ask corpus old (ask.Sketch least most lemma) reply no_count no_query g = unasked corpus (ask_of (ask.Sketch least most lemma)) old reply (λ images grammar. unbuilt reply g)
-unbuilt_ask corpus old (ask.Thes most lemma) reply no_count no_query g = unasked corpus (ask_of (ask.Thes most lemma)) old reply (λ images grammar. unbuilt reply g)
+unbuilt_ask corpus old (ask.Count cql) reply no_count no_query no_freq no_colloc g = absurd (no_count cql refl)
+unbuilt_ask corpus old (ask.Query cql) reply no_count no_query no_freq no_colloc g = absurd (no_query cql refl)
+unbuilt_ask corpus old (ask.Freq attr offset cql) reply no_count no_query no_freq no_colloc g = absurd (no_freq attr offset cql refl)
+unbuilt_ask corpus old (ask.Colloc attr first last least cql) reply no_count no_query no_freq no_colloc g = absurd (no_colloc attr first last least cql refl)
+unbuilt_ask corpus old (ask.Sketch least most lemma) reply no_count no_query no_freq no_colloc g = unasked corpus (ask_of (ask.Sketch least most lemma)) old reply (λ images grammar. unbuilt reply g)
+unbuilt_ask corpus old (ask.Thes most lemma) reply no_count no_query no_freq no_colloc g = unasked corpus (ask_of (ask.Thes most lemma)) old reply (λ images grammar. unbuilt reply g)
 
 -- ## Refusals
 

@@ -73,7 +73,7 @@ refused_declines : (corpus : Corpus) (cql : List ℕ) (query : Query) (old new :
 refused_declines corpus cql query old new k read stop = by stop.refused
   where
     told : (gained : List (List ℕ)) → Contains gained stop.text ⊎ Contains gained (wrapped stop.text) → (images : Images) (grammar : Option Grammar) →
-        IsDeclined (seen images corpus grammar) cql (gained_of gained) (d.PatternRefused k)
+        IsDeclined (query_checks (seen images corpus grammar) cql) (ExceptsQuery (seen images corpus grammar) cql (gained_of gained)) (d.PatternRefused k)
     told gained among images grammar = RefusedPattern query k read (record { text = stop.text; stops = stops_of (patterns query) k stop.text stop.stops; among = among })
 
     by : RefusedOne old stop.text new → DeclinesQuery corpus cql old new (d.PatternRefused k)
@@ -124,18 +124,14 @@ rows_decline one corpus cql query old new why read refuses over =
 
 -- ## What is told
 
--- a question with these checks and exceptions
-abbrev pub about : (scene : Scene) (cql : List ℕ) → (List (List ℕ) → Type 0) → Question
-about scene cql Answers = record { checks = query_checks scene cql; Answers = Answers; Excepts = ExceptsQuery scene cql }
+told : (asked : Question) (gained : Gained) (declined : Declined) (answer : Answer) → IsDeclined asked.checks (asked.Excepts gained) declined →
+    (answer ≡ Refused (declined_line declined)) ⊎ (answer ≡ Refused no_memory_line) → AskStepBy asked gained answer
+told asked gained declined answer stands (inr e) = rw e AskStarved
+told asked gained (d.Refused refusal) answer (inl first) (inl e) = rw e (AskDeclined (refusal_of refusal) first)
+told asked gained (d.Refused refusal) answer (inr in_place) (inl e) = rw e (AskExcepted (refusal_line (refusal_of refusal)) in_place)
+told asked gained (d.PatternRefused number) answer in_place (inl e) = rw e (AskExcepted (pattern_refused_line number) in_place)
+told asked gained d.NoMemory answer stands (inl e) = rw e AskStarved
 
-told : (scene : Scene) (cql : List ℕ) (gained : Gained) (Answers : List (List ℕ) → Type 0) (declined : Declined) (answer : Answer) → IsDeclined scene cql gained declined →
-    (answer ≡ Refused (declined_line declined)) ⊎ (answer ≡ Refused no_memory_line) → AskStepBy (about scene cql Answers) gained answer
-told scene cql gained Answers declined answer stands (inr e) = rw e AskStarved
-told scene cql gained Answers (d.Refused refusal) answer (inl first) (inl e) = rw e (AskDeclined (refusal_of refusal) first)
-told scene cql gained Answers (d.Refused refusal) answer (inr in_place) (inl e) = rw e (AskExcepted (refusal_line (refusal_of refusal)) in_place)
-told scene cql gained Answers (d.PatternRefused number) answer in_place (inl e) = rw e (AskExcepted (pattern_refused_line number) in_place)
-told scene cql gained Answers d.NoMemory answer stands (inl e) = rw e AskStarved
-
-pub tells : (scene : Scene) (cql : List ℕ) (gained : Gained) (Answers : List (List ℕ) → Type 0) (declined : Declined) (reply : Reply) → IsDeclined scene cql gained declined →
-    Given (Refused (declined_line declined)) reply → Asked (about scene cql Answers) gained reply
-tells scene cql gained Answers declined reply stands g = record { answer = g.answer; says = g.says; holds = told scene cql gained Answers declined g.answer stands g.holds }
+pub tells : (asked : Question) (gained : Gained) (declined : Declined) (reply : Reply) → IsDeclined asked.checks (asked.Excepts gained) declined → Given (Refused (declined_line declined)) reply →
+    Asked asked gained reply
+tells asked gained declined reply stands g = record { answer = g.answer; says = g.says; holds = told asked gained declined g.answer stands g.holds }

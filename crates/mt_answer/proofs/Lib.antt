@@ -7,3 +7,6 @@ pub mod SpanCounts
 pub mod Texts
 pub mod Answers
 pub mod Fitting
+pub mod Few
+pub mod Reports
+pub mod Unruled

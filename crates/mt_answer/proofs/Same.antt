@@ -1,5 +1,5 @@
 -- The patterns of a query as they are built are those that a refusal counts.
-use Rattle.std.proofs.Common.{◌≡◌, List, [], ◌∷◌, ◌++◌, ℕ, refl, ◌∙◌, append_assoc}
+use Rattle.std.proofs.Common.{◌≡◌, ◌++◌, refl, ◌∙◌, append_assoc}
 use Rattle.mt_text_spec.specs.Queries.{Test, Any, Pattern, Literal, Not, Both, Either, Expr, TokenTest, Begin, End, Whole, Seq, Choice, Repeat, Filters, NoMore, More, Query}
 use Rattle.mt_query_spec.specs.Contents as counted
 use Rattle.mt_eval_spec.specs.Asked as built

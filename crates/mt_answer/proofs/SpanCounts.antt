@@ -39,7 +39,7 @@ spans_sorted : (rows : List Row) → IsStrictlySortedBy row_cmp rows → IsSorte
 spans_sorted rows s = λ k d low high.
     subst (λ n. is_lt (span_cmp (get_or (span_list rows) n d) (get_or (span_list rows) k d)) ≡ false) (sym (add-one k)) (adjacent rows s k d (omega (arith, high)))
 
-in_spans : (rows : List Row) (row : Row) → Member row rows → Member row.span (span_list rows)
+pub in_spans : (rows : List Row) (row : Row) → Member row rows → Member row.span (span_list rows)
 in_spans [] row m = m
 in_spans (r ∷ rows) row (inl e) = inl (ap (λ (x : Row). x.span) e)
 in_spans (r ∷ rows) row (inr m) = inr (in_spans rows row m)

@@ -3,3 +3,5 @@ pub mod Replies
 pub mod Declines
 pub mod Errors
 pub mod Rows
+pub mod Given
+pub mod Reports

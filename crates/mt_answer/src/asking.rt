@@ -4,7 +4,9 @@ ghost use Rattle.mt_script.specs.Seen.{ask_of};
 ghost use Rattle.mt_answer.specs.Replies.{AnswersAsk};
 ghost use Rattle.mt_answer.specs.Rows.{HasImages};
 
+use super::collocates::colloc;
 use super::counting::count;
+use super::frequencies::freq;
 use super::querying::query;
 use super::refusal::Refusal;
 use super::reply::{Reply, refused};
@@ -21,6 +23,14 @@ pub fn answer<P: PatternShop>(alloc: Global, corpus: &Corpus, ask: &Ask, shop: &
     match ask {
         Ask::Count { cql } => count(alloc, corpus, cql, shop),
         Ask::Query { cql } => query(alloc, corpus, cql, shop),
+        Ask::Freq { attr, offset, cql } => freq(alloc, corpus, attr, *offset, cql, shop),
+        Ask::Colloc {
+            attr,
+            from,
+            to,
+            min,
+            cql,
+        } => colloc(alloc, corpus, attr, *from, *to, *min, cql, shop),
         _ => refused(alloc, &Refusal::BadCommand),
     }
 }

@@ -1,23 +1,28 @@
 //! Answers to questions about a corpus, and the lines that refuse a command.
 //!
 //! A question that has a query is answered in the order of its checks: `read_query` reads the text, `query_rows` finds the rows or says why there are none
-//! (`Declined`), and `count` and `query` say what is answered of them.
+//! (`Declined`), and `count` and `query` say what is answered of them. `freq` and `colloc` look up their attribute before.
 #![tactic(auto)]
 
 mod asking;
+mod collocates;
 mod counting;
 mod declined;
+mod frequencies;
+mod grammars;
 mod names;
 mod querying;
 mod reading;
 mod refusal;
 mod reply;
+mod reporting;
 mod rows;
 mod spans;
 
 pub use asking::answer;
 pub use declined::Declined;
+pub use grammars::no_grammar;
 pub use reading::read_query;
-pub use refusal::{BAD_COMMAND, CUT_SHORT, NO_MEMORY, Refusal};
+pub use refusal::{BAD_COMMAND, CUT_SHORT, NO_MEMORY, Refusal, RuleCause};
 pub use reply::{Reply, count_line, failed, ok_line, pattern_refused, refused};
 pub use rows::query_rows;

@@ -1,14 +1,18 @@
 //! Why a command is refused, and the line that says so.
 
-ghost use Rattle.std.specs.Prelude.{◌≡◌, ◌∷◌, ◌++◌, IfOk, string_bytes};
+ghost use Rattle.std.specs.Prelude.{◌≡◌, ◌∷◌, ◌++◌, IfOk, codes, string_bytes};
 ghost use Rattle.std.specs.Fmt.{decimal};
 ghost use Rattle.mt_text_spec.specs.Lines.{closed};
 ghost use Rattle.mt_cql.specs.Read.{cause_seen};
-ghost use Rattle.mt_session_spec.specs.Refusals.{refusal_line, failure_line, pattern_refused_line, query_cause};
-ghost use Rattle.mt_answer.specs.Refusals.{refusal_of};
+ghost use Rattle.mt_grammar.specs.Errors.{line_cause_seen};
+ghost use Rattle.mt_grammar_spec.specs.GrammarFile.{NoQuery};
+ghost use Rattle.mt_session_spec.specs.Refusals as spec;
+ghost use Rattle.mt_session_spec.specs.Refusals.{refusal_line, failure_line, pattern_refused_line, query_cause, grammar_cause};
+ghost use Rattle.mt_answer.specs.Refusals.{refusal_of, rule_cause_seen};
 
 use mt_base::{List, NoMemory};
 use mt_cql::Cause;
+use mt_grammar::LineCause;
 use mt_registry::BadLine as BadRegistryLine;
 use mt_vertical::BadLine as BadTextLine;
 use std::alloc::Global;
@@ -51,10 +55,29 @@ pub enum Refusal<'a> {
     TooManyRows,
     /// There is no room for the text.
     CorpusFull,
+    /// No sketch grammar is held.
+    NoGrammar,
+    /// This line is the first that the grammar is refused for.
+    BadGrammar { line: usize, cause: LineCause },
+    /// This line is the first that the grammar is refused for: its text is no query.
+    BadRule { line: usize, cause: RuleCause },
+    /// The grammar has no heading.
+    NoRelation,
     /// The text of the query is too long or nests too deep, or the query is too great.
     QueryTooLarge,
     /// The corpus has no text of this name.
     NoSuchText(&'a str),
+}
+
+/// Why the text of a line of a grammar is no query. Bytes count from 0 at the begin of the text.
+#[derive(Clone, Copy, Debug)]
+pub enum RuleCause {
+    /// It is too long or nests too deep, or its query is too great.
+    TooLarge,
+    /// It is wrong by what stands at this byte.
+    Syntax { at: u32, cause: Cause },
+    /// What it names at this byte is not declared.
+    Unknown { at: u32 },
 }
 
 impl Refusal<'_> {
@@ -88,6 +111,12 @@ impl Refusal<'_> {
             Refusal::BadPattern(number) => Ok(format!(in alloc; "! 20 BadPattern {number}\n")?),
             Refusal::TooManyRows => whole(alloc, "! 22 TooManyRows\n"),
             Refusal::CorpusFull => whole(alloc, "! 23 CorpusFull\n"),
+            Refusal::NoGrammar => whole(alloc, "! 25 NoGrammar\n"),
+            Refusal::BadGrammar { line, cause } => {
+                placed(alloc, "! 26 BadGrammar", *line, line_word(*cause))
+            }
+            Refusal::BadRule { line, cause } => bad_rule(alloc, *line, *cause),
+            Refusal::NoRelation => whole(alloc, "! 26 BadGrammar 0 NoRelation\n"),
             Refusal::QueryTooLarge => whole(alloc, "! 27 QueryTooLarge\n"),
             Refusal::NoSuchText(name) => named(alloc, "! 31 NoSuchText", name),
         }
@@ -119,6 +148,47 @@ fn cause_word(cause: Cause) -> &'static str
         Cause::Range => "Range",
         Cause::Label => "Label",
     }
+}
+
+/// Why a line of a grammar is refused, in one word.
+fn line_word(cause: LineCause) -> &'static str
+    ensures { result.now ≡ grammar_cause (line_cause_seen cause) }
+{
+    match cause {
+        LineCause::NotUtf8 => "NotUtf8",
+        LineCause::Directive => "Directive",
+        LineCause::Kind => "Kind",
+        LineCause::Name => "Name",
+        LineCause::Heading => "Heading",
+        LineCause::NoHeading => "NoHeading",
+        LineCause::TooMany => "TooMany",
+        LineCause::Label => "Label",
+    }
+}
+
+/// The reply that names a line of a grammar, and why its text is no query.
+fn bad_rule(alloc: Global, line: usize, cause: RuleCause) -> Result<String, NoMemory>
+    ensures { IfOk result (λ text. string_bytes text ≡ closed (refusal_line (spec.BadGrammar line (NoQuery (rule_cause_seen cause))))) }
+{
+    match cause {
+        RuleCause::TooLarge => placed(alloc, "! 26 BadGrammar", line, "TooLarge"),
+        RuleCause::Syntax { at, cause } => bad_syntax(alloc, line, at, cause_word(cause)),
+        RuleCause::Unknown { at } => unknown_in(alloc, line, at),
+    }
+}
+
+/// The reply that names a line of a grammar and a byte of its text, where what is named is not declared.
+fn unknown_in(alloc: Global, line: usize, at: u32) -> Result<String, NoMemory>
+    ensures { IfOk result (λ text. string_bytes text ≡ closed (codes "! 26 BadGrammar " ++ decimal line ++ 32 ∷ (codes "Unknown " ++ decimal at))) }
+{
+    Ok(format!(in alloc; "! 26 BadGrammar {line} Unknown {at}\n")?)
+}
+
+/// The reply that names a line of a grammar and a byte of its text, and a cause.
+fn bad_syntax(alloc: Global, line: usize, at: u32, cause: &str) -> Result<String, NoMemory>
+    ensures { IfOk result (λ text. string_bytes text ≡ closed (codes "! 26 BadGrammar " ++ decimal line ++ 32 ∷ (codes "Syntax " ++ decimal at ++ 32 ∷ cause.now))) }
+{
+    Ok(format!(in alloc; "! 26 BadGrammar {line} Syntax {at} {cause}\n")?)
 }
 
 /// The reply that names a line or a byte, and a cause.
