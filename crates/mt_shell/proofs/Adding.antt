@@ -1,5 +1,5 @@
 -- What the replies to `text` and `add` mean.
-use Rattle.std.proofs.Common.{◌≡◌, ◌⊎◌, inl, inr, ℕ, Bool, List, None, [], ◌∷◌, ◌++◌, length, map, take, refl, sym, ◌∙◌, ap, subst, codes, append-nil}
+use Rattle.std.proofs.Common.{◌≡◌, ◌⊎◌, inl, inr, ℕ, Bool, List, Option, None, Some, [], ◌∷◌, ◌++◌, length, map, take, refl, sym, ◌∙◌, ap, subst, codes, append-nil}
 use Rattle.std.specs.Fmt.{decimal}
 use Rattle.std.proofs.Math.Seq.{take-append_seam}
 use Rattle.std.proofs.lemmas.List.{length-map}
@@ -7,9 +7,11 @@ use Rattle.std.specs.List.{flat_map}
 use Rattle.mt_text_spec.specs.Lines.{closed}
 use Rattle.mt_text_spec.specs.Registries.{Registry, ValidRegistry}
 use Rattle.mt_text_spec.specs.Texts.{Text, ValidText}
+use Rattle.mt_text_spec.specs.Queries.{Grammar}
 use Rattle.mt_shelf_spec.specs.Files.{Files}
 use Rattle.mt_file_spec.specs.Vertical.{Vertical, FirstTextFault, TextCause}
 use Rattle.mt_vertical.specs.TextLaws.{OneText, NoTextWithFault}
+use Rattle.mt_rule_spec.specs.Rules.{HasTooManyIn}
 use Rattle.mt_script_spec.specs.Commands.{Text as TextCommand, Add}
 use Rattle.mt_session_spec.specs.World.{Held, World, Group, ValidHeld, Holds, IsFull, with_text, alone}
 use Rattle.mt_corpus_spec.specs.Images.{Corpus, AreImagesBy}
@@ -17,19 +19,19 @@ use Rattle.mt_corpus.specs.Keeping.{AgreeWith, firsts, is_named}
 use Rattle.mt_segment.specs.Mappers.{AreThere, named}
 use Rattle.mt_session_spec.specs.Settings.{Setting, images_of}
 use Rattle.mt_session_spec.specs.Gains.{Gained, none_gained}
-use Rattle.mt_session_spec.specs.Refusals.{NameTaken, NoSuchFile, FileTooLong, BadVertical, CorpusFull, refusal_line, failure_line, no_memory_line}
+use Rattle.mt_session_spec.specs.Refusals.{NameTaken, NoSuchFile, FileTooLong, BadVertical, CorpusFull, TooManyRows, refusal_line, failure_line, no_memory_line}
 use Rattle.mt_session_spec.specs.Checks.{Check, Passes, NoneStands}
 use Rattle.mt_session_spec.specs.Answers as answers
 use Rattle.mt_session_spec.specs.Files.{IsAbsent, IsTooLong, IsFile, file_checks}
 use Rattle.mt_session_spec.specs.Meaning.{Meaning, Exception, LoadsNone, LoadsBehind, Starved, Blocked}
-use Rattle.mt_session_spec.specs.Adding.{IsNoText, BadLine, IsTooMuch, AddsText, name_checks, text_checks, texting, adding}
+use Rattle.mt_session_spec.specs.Adding.{IsNoText, BadLine, IsTooMuch, IsTooRich, AddsText, name_checks, text_checks, texting, adding}
 use Rattle.mt_session_spec.specs.Laws.{HeldIsValid}
 use Rattle.mt_session_spec.specs.Steps.{StepBy, Meant, Excepted, Declined, Accepted}
 use Rattle.mt_answer.specs.declared.reply.Reply.{Reply}
 use Rattle.mt_answer.specs.declared.reply.Reply.TheVariants.{Lines, NoMemory}
 use Rattle.mt_answer.specs.Replies.{SaysLines, SaysNoMemory, Given}
 use Rattle.mt_shell.specs.Serves.{Kept, Serves, kept}
-use Rattle.mt_shell.specs.Answers.{Answers, AnswersAlone, Keeps, NoRoom, Kept as KeptText, KeptNot, Takes, Faulty, Sound, TakenNot, KeepsText, ReadsText, over}
+use Rattle.mt_shell.specs.Answers.{Answers, AnswersAlone, IsRich, Keeps, NoRoom, TooRich, Kept as KeptText, KeptNot, Takes, Faulty, Sound, TakenNot, KeepsText, ReadsText, over}
 use Rattle.mt_shell.proofs.Meanings.{declined, kept_from, starved, no_cause, first_behind, none_both}
 use Rattle.mt_shell.proofs.Shelves.{same_bytes, not_absent, file_is_there, at_file}
 
@@ -44,8 +46,8 @@ record IsGiven (Given : List ℕ → Type 0) (bytes : List ℕ) : Type 0 where
   pub only : (other : List ℕ) → Given other → other ≡ bytes
 
 -- a text of these bytes is added behind a front of checks
-abbrev adds : World → List ℕ → List Check → (List ℕ → Type 0) → (List ℕ → Type 0) → Meaning
-adds world name front Given Loads = record { checks = front ++ text_checks world.held name Given; Accepts = AddsText world name Given; Excepts = Exception world Loads }
+abbrev adds : Setting → World → List ℕ → List Check → (List ℕ → Type 0) → (List ℕ → Type 0) → Meaning
+adds setting world name front Given Loads = record { checks = front ++ text_checks setting world.held name Given; Accepts = AddsText world name Given; Excepts = Exception world Loads }
 
 -- ## What is read
 
@@ -59,30 +61,45 @@ no_excess laws held name bytes Given text valid is v room much =
     let same : much.text ≡ text = laws.one_text held.registry name bytes much.text text valid (rw (is.only much.bytes much.given) at much.read) v in
     room (subst (λ (t : Text). IsFull held.groups (length t.tokens)) same much.full)
 
-keeps_by : (laws : Readings) (held : Held) (files : Files) (name bytes : List ℕ) (front : List Check) (Given Loads : List ℕ → Type 0) (gained : Gained) (text : Text) (answer : answers.Answer) (new : Held) →
-    ValidRegistry held.registry → NoneStands front → IsGiven Given bytes → Vertical held.registry name bytes text → Keeps held text answer new →
-    StepBy (adds (over held files) name front Given Loads) (over held files) gained (over new files) answer
-keeps_by laws held files name bytes front Given Loads gained text answer new valid none is v (NoRoom full) =
-    Meant (over held files) (answers.Refused (refusal_line CorpusFull)) (Declined CorpusFull (first_behind front (text_checks held name Given) CorpusFull none (inr (
+no_riches : (laws : Readings) (setting : Setting) (held : Held) (name bytes : List ℕ) (Given : List ℕ → Type 0) (text : Text) → ValidRegistry held.registry → IsGiven Given bytes → Vertical held.registry name bytes text →
+    (IsRich setting held text → ⊥) → IsTooRich setting held name Given → ⊥
+no_riches laws setting held name bytes Given text valid is v poor rich =
+    let same : rich.text ≡ text = laws.one_text held.registry name bytes rich.text text valid (rw (is.only rich.bytes rich.given) at rich.read) v in
+    poor (record { grammar = rich.grammar; ruled = rich.ruled; many = subst (λ (t : Text). HasTooManyIn (images_of setting) held.registry rich.grammar t) same rich.many })
+
+keeps_by : (laws : Readings) (setting : Setting) (held : Held) (files : Files) (name bytes : List ℕ) (front : List Check) (Given Loads : List ℕ → Type 0) (gained : Gained) (text : Text) (answer : answers.Answer) (new : Held) →
+    ValidRegistry held.registry → NoneStands front → IsGiven Given bytes → Vertical held.registry name bytes text → Keeps setting held text answer new →
+    StepBy (adds setting (over held files) name front Given Loads) (over held files) gained (over new files) answer
+keeps_by laws setting held files name bytes front Given Loads gained text answer new valid none is v (NoRoom full) =
+    Meant (over held files) (answers.Refused (refusal_line CorpusFull)) (Declined CorpusFull (first_behind front (text_checks setting held name Given) CorpusFull none (inr (
       no_fault laws held name bytes Given text valid is v,
       inl (record { is = refl; there = record { bytes = bytes; given = is.given; text = text; read = v; full = full } }),
     ))))
-keeps_by laws held files name bytes front Given Loads gained text answer new valid none is v (KeptText room) =
-    Meant (over (with_text held text) files) (answers.Lines ((codes "ok " ++ decimal (length text.tokens)) ∷ [])) (Accepted (over (with_text held text) files) (answers.Lines ((codes "ok " ++ decimal (length text.tokens)) ∷ []))
-    (none_both front (text_checks held name Given) none (
+keeps_by laws setting held files name bytes front Given Loads gained text answer new valid none is v (TooRich room rich) =
+    Meant (over held files) (answers.Refused (refusal_line TooManyRows)) (Declined TooManyRows (first_behind front (text_checks setting held name Given) TooManyRows none (inr (
       no_fault laws held name bytes Given text valid is v,
-      (no_cause (no_excess laws held name bytes Given text valid is v room), tt),
+      inr (
+        no_cause (no_excess laws held name bytes Given text valid is v room),
+        inl (record { is = refl; there = record { grammar = rich.grammar; ruled = rich.ruled; bytes = bytes; given = is.given; text = text; read = v; many = rich.many } }),
+      ),
+    ))))
+keeps_by laws setting held files name bytes front Given Loads gained text answer new valid none is v (KeptText room poor) =
+    Meant (over (with_text held text) files) (answers.Lines ((codes "ok " ++ decimal (length text.tokens)) ∷ [])) (Accepted (over (with_text held text) files) (answers.Lines ((codes "ok " ++ decimal (length text.tokens)) ∷ []))
+    (none_both front (text_checks setting held name Given) none (
+      no_fault laws held name bytes Given text valid is v,
+      (no_cause (no_excess laws held name bytes Given text valid is v room), (no_cause (no_riches laws setting held name bytes Given text valid is v poor), tt)),
     )) (record { bytes = bytes; given = is.given; text = text; read = v; changed = refl; says = refl }))
-keeps_by laws held files name bytes front Given Loads gained text answer new valid none is v KeptNot = Excepted (over held files) (answers.Refused no_memory_line) Starved
+keeps_by laws setting held files name bytes front Given Loads gained text answer new valid none is v KeptNot = Excepted (over held files) (answers.Refused no_memory_line) Starved
 
-takes_by : (laws : Readings) (held : Held) (files : Files) (name bytes : List ℕ) (front : List Check) (Given Loads : List ℕ → Type 0) (gained : Gained) (answer : answers.Answer) (new : Held) →
-    ValidRegistry held.registry → NoneStands front → IsGiven Given bytes → Takes held name bytes answer new →
-    StepBy (adds (over held files) name front Given Loads) (over held files) gained (over new files) answer
-takes_by laws held files name bytes front Given Loads gained answer new valid none is (Faulty line cause f) =
-    Meant (over held files) (answers.Refused (refusal_line (BadVertical line cause))) (Declined (BadVertical line cause) (first_behind front (text_checks held name Given) (BadVertical line cause) none (inl (BadLine bytes line cause is.given f))))
-takes_by laws held files name bytes front Given Loads gained answer new valid none is (Sound text said changed v k) =
-    keeps_by laws held files name bytes front Given Loads gained text said changed valid none is v k
-takes_by laws held files name bytes front Given Loads gained answer new valid none is TakenNot = Excepted (over held files) (answers.Refused no_memory_line) Starved
+takes_by : (laws : Readings) (setting : Setting) (held : Held) (files : Files) (name bytes : List ℕ) (front : List Check) (Given Loads : List ℕ → Type 0) (gained : Gained) (answer : answers.Answer) (new : Held) →
+    ValidRegistry held.registry → NoneStands front → IsGiven Given bytes → Takes setting held name bytes answer new →
+    StepBy (adds setting (over held files) name front Given Loads) (over held files) gained (over new files) answer
+takes_by laws setting held files name bytes front Given Loads gained answer new valid none is (Faulty line cause f) =
+    Meant (over held files) (answers.Refused (refusal_line (BadVertical line cause)))
+    (Declined (BadVertical line cause) (first_behind front (text_checks setting held name Given) (BadVertical line cause) none (inl (BadLine bytes line cause is.given f))))
+takes_by laws setting held files name bytes front Given Loads gained answer new valid none is (Sound text said changed v k) =
+    keeps_by laws setting held files name bytes front Given Loads gained text said changed valid none is v k
+takes_by laws setting held files name bytes front Given Loads gained answer new valid none is TakenNot = Excepted (over held files) (answers.Refused no_memory_line) Starved
 
 -- no text has this name
 name_free : (held : Held) (name : List ℕ) → (Holds held name → ⊥) → NoneStands (name_checks held name)
@@ -92,14 +109,14 @@ name_free held name free = (no_cause free, tt)
 
 pub text_taken : (setting : Setting) (held : Held) (name body : List ℕ) (reply : Reply) → Holds held name → Given (answers.Refused (refusal_line (NameTaken name))) reply → AnswersAlone setting held (TextCommand name body) reply held
 text_taken setting held name body reply h g files =
-    declined (texting (over held files) name body) (over held files) none_gained (NameTaken name) reply (inl (record { is = refl; there = h })) Starved g
+    declined (texting setting (over held files) name body) (over held files) none_gained (NameTaken name) reply (inl (record { is = refl; there = h })) Starved g
 
-pub text_read : (laws : Readings) (setting : Setting) (held new : Held) (name body : List ℕ) (reply : Reply) → ValidRegistry held.registry → (Holds held name → ⊥) → ReadsText held name body reply new →
+pub text_read : (laws : Readings) (setting : Setting) (held new : Held) (name body : List ℕ) (reply : Reply) → ValidRegistry held.registry → (Holds held name → ⊥) → ReadsText setting held name body reply new →
     AnswersAlone setting held (TextCommand name body) reply new
 text_read laws setting held new name body reply valid free r files = record {
   answer = r.answer;
   says = r.says;
-  holds = takes_by laws held files name body (name_checks held name) (λ bytes. bytes ≡ body) LoadsNone none_gained r.answer new valid (name_free held name free)
+  holds = takes_by laws setting held files name body (name_checks held name) (λ bytes. bytes ≡ body) LoadsNone none_gained r.answer new valid (name_free held name free)
       (record { given = refl; only = λ other e. e }) r.holds;
 }
 
@@ -107,66 +124,70 @@ text_read laws setting held new name body reply valid free r files = record {
 
 pub add_taken : (setting : Setting) (held : Held) (name file : List ℕ) (reply : Reply) → Holds held name → Given (answers.Refused (refusal_line (NameTaken name))) reply → AnswersAlone setting held (Add name file) reply held
 add_taken setting held name file reply h g files =
-    declined (adding (over held files) name file) (over held files) none_gained (NameTaken name) reply (inl (record { is = refl; there = h })) Starved g
+    declined (adding setting (over held files) name file) (over held files) none_gained (NameTaken name) reply (inl (record { is = refl; there = h })) Starved g
 
 pub add_absent : (setting : Setting) (held : Held) (name file : List ℕ) (reply : Reply) (files : Files) → (Holds held name → ⊥) → IsAbsent files file → Given (answers.Refused (refusal_line (NoSuchFile file))) reply →
     Answers setting (over held files) (Add name file) none_gained reply (over held files)
 add_absent setting held name file reply files free a g =
-    declined (adding (over held files) name file) (over held files) none_gained (NoSuchFile file) reply (inr (no_cause free, inl (record { is = refl; there = a }))) Starved g
+    declined (adding setting (over held files) name file) (over held files) none_gained (NoSuchFile file) reply (inr (no_cause free, inl (record { is = refl; there = a }))) Starved g
 
 pub add_too_long : (setting : Setting) (held : Held) (name file : List ℕ) (reply : Reply) (files : Files) → (Holds held name → ⊥) → IsTooLong files file → Given (answers.Refused (refusal_line (FileTooLong file))) reply →
     Answers setting (over held files) (Add name file) none_gained reply (over held files)
 add_too_long setting held name file reply files free t g =
-    declined (adding (over held files) name file) (over held files) none_gained (FileTooLong file) reply
+    declined (adding setting (over held files) name file) (over held files) none_gained (FileTooLong file) reply
     (inr (no_cause free, inr (no_cause (not_absent files file t.bytes t.found), inl (record { is = refl; there = t })))) Starved g
 
 pub add_failed : (setting : Setting) (held : Held) (name file : List ℕ) (reply : Reply) (files : Files) → (Holds held name → ⊥) → Given (answers.Refused (failure_line file)) reply →
     Answers setting (over held files) (Add name file) (record { failed = file ∷ []; refused = [] }) reply (over held files)
 add_failed setting held name file reply files free g =
     let gained : Gained = record { failed = file ∷ []; refused = [] } in
-    kept_from (adding (over held files) name file) (over held files) gained file reply
+    kept_from (adding setting (over held files) name file) (over held files) gained file reply
     (Blocked file (record { is = refl; reached = name_free held name free }) (at_file file)) Starved g
 
 pub add_starved : (setting : Setting) (held : Held) (name file : List ℕ) (files : Files) (gained : Gained) → Answers setting (over held files) (Add name file) gained NoMemory (over held files)
-add_starved setting held name file files gained = starved (adding (over held files) name file) (over held files) gained Starved
+add_starved setting held name file files gained = starved (adding setting (over held files) name file) (over held files) gained Starved
 
 pub add_read : (laws : Readings) (setting : Setting) (held new : Held) (name file bytes : List ℕ) (reply : Reply) (files : Files) → ValidRegistry held.registry → (Holds held name → ⊥) → IsFile files file bytes →
-    ReadsText held name bytes reply new → Answers setting (over held files) (Add name file) none_gained reply (over new files)
+    ReadsText setting held name bytes reply new → Answers setting (over held files) (Add name file) none_gained reply (over new files)
 add_read laws setting held new name file bytes reply files valid free f r = record {
   answer = r.answer;
   says = r.says;
-  holds = takes_by laws held files name bytes (name_checks held name ++ file_checks files file) (IsFile files file) (LoadsBehind (name_checks held name) file) none_gained r.answer new valid
+  holds = takes_by laws setting held files name bytes (name_checks held name ++ file_checks files file) (IsFile files file) (LoadsBehind (name_checks held name) file) none_gained r.answer new valid
       (no_cause free, file_is_there files file bytes f) (record { given = f; only = λ other g. same_bytes files file other bytes g.found f.found }) r.holds;
 }
 
 -- ## Parts
 
-pub faulty : (held : Held) (name bytes : List ℕ) (line : ℕ) (cause : TextCause) (reply : Reply) → FirstTextFault held.registry bytes line cause →
-    Given (answers.Refused (refusal_line (BadVertical line cause))) reply → ReadsText held name bytes reply held
-faulty held name bytes line cause reply f g = record { answer = g.answer; says = g.says; holds = by g.answer g.holds }
+pub faulty : (setting : Setting) (held : Held) (name bytes : List ℕ) (line : ℕ) (cause : TextCause) (reply : Reply) → FirstTextFault held.registry bytes line cause →
+    Given (answers.Refused (refusal_line (BadVertical line cause))) reply → ReadsText setting held name bytes reply held
+faulty setting held name bytes line cause reply f g = record { answer = g.answer; says = g.says; holds = by g.answer g.holds }
   where
-    by : (answer : answers.Answer) → (answer ≡ answers.Refused (refusal_line (BadVertical line cause))) ⊎ (answer ≡ answers.Refused no_memory_line) → Takes held name bytes answer held
+    by : (answer : answers.Answer) → (answer ≡ answers.Refused (refusal_line (BadVertical line cause))) ⊎ (answer ≡ answers.Refused no_memory_line) → Takes setting held name bytes answer held
     by answer (inl e) = rw e (Faulty line cause f)
     by answer (inr e) = rw e TakenNot
 
-pub sound : (held new : Held) (name bytes : List ℕ) (text : Text) (reply : Reply) → Vertical held.registry name bytes text → KeepsText held text reply new → ReadsText held name bytes reply new
-sound held new name bytes text reply v k = record { answer = k.answer; says = k.says; holds = Sound text k.answer new v k.holds }
+pub sound : (setting : Setting) (held new : Held) (name bytes : List ℕ) (text : Text) (reply : Reply) → Vertical held.registry name bytes text → KeepsText setting held text reply new → ReadsText setting held name bytes reply new
+sound setting held new name bytes text reply v k = record { answer = k.answer; says = k.says; holds = Sound text k.answer new v k.holds }
 
-pub unread : (held : Held) (name bytes : List ℕ) → ReadsText held name bytes NoMemory held
-unread held name bytes = record { answer = answers.Refused no_memory_line; says = SaysNoMemory; holds = TakenNot }
+pub unread : (setting : Setting) (held : Held) (name bytes : List ℕ) → ReadsText setting held name bytes NoMemory held
+unread setting held name bytes = record { answer = answers.Refused no_memory_line; says = SaysNoMemory; holds = TakenNot }
 
-pub no_room : (held : Held) (text : Text) (reply : Reply) → IsFull held.groups (length text.tokens) → Given (answers.Refused (refusal_line CorpusFull)) reply → KeepsText held text reply held
-no_room held text reply f g = record { answer = g.answer; says = g.says; holds = by g.answer g.holds }
+pub no_room : (setting : Setting) (held : Held) (text : Text) (reply : Reply) → IsFull held.groups (length text.tokens) → Given (answers.Refused (refusal_line CorpusFull)) reply → KeepsText setting held text reply held
+no_room setting held text reply f g = record { answer = g.answer; says = g.says; holds = by g.answer g.holds }
   where
-    by : (answer : answers.Answer) → (answer ≡ answers.Refused (refusal_line CorpusFull)) ⊎ (answer ≡ answers.Refused no_memory_line) → Keeps held text answer held
+    by : (answer : answers.Answer) → (answer ≡ answers.Refused (refusal_line CorpusFull)) ⊎ (answer ≡ answers.Refused no_memory_line) → Keeps setting held text answer held
     by answer (inl e) = rw e (NoRoom f)
     by answer (inr e) = rw e KeptNot
 
+-- where no grammar is held, none has too many rows
+pub no_rules : (setting : Setting) (state : Kept) (accepted : Bool) (corpus : Corpus) (text : Text) → kept accepted None corpus ≡ state → IsRich setting state.held text → ⊥
+no_rules setting state accepted corpus text v rich = let none : None ≡ Some rich.grammar = ap (λ (k : Kept). k.held.grammar) v ∙ rich.ruled in cc
+
 -- a corpus with a text more
-text_changed : (state : Kept) (accepted : Bool) (corpus more : Corpus) (text : Text) → kept accepted corpus ≡ state → more.registry ≡ corpus.registry → more.groups ≡ corpus.groups ++ alone text ∷ [] →
-    (kept accepted more).held ≡ with_text state.held text
-text_changed state accepted corpus more text v r m =
-    let held : Registry → List Group → Held = λ registry groups. record { registry = registry; accepted = accepted; grammar = None; groups = groups } in
+text_changed : (state : Kept) (accepted : Bool) (grammar : Option Grammar) (corpus more : Corpus) (text : Text) → kept accepted grammar corpus ≡ state → more.registry ≡ corpus.registry → more.groups ≡ corpus.groups ++ alone text ∷ [] →
+    (kept accepted grammar more).held ≡ with_text state.held text
+text_changed state accepted grammar corpus more text v r m =
+    let held : Registry → List Group → Held = λ registry groups. record { registry = registry; accepted = accepted; grammar = grammar; groups = groups } in
     ap (λ registry. held registry more.groups) r ∙ ap (λ groups. held corpus.registry groups) m ∙ ap (λ (k : Kept). with_text k.held text) v
 
 one_line : (line : List ℕ) → flat_map closed (line ∷ []) ≡ closed line
@@ -175,38 +196,38 @@ one_line line = append-nil (closed line)
 pub line_is : (tokens : ℕ) (text : Text) (line : List ℕ) → line ≡ closed (codes "ok" ++ 32 ∷ decimal tokens) → tokens ≡ length text.tokens → line ≡ closed (codes "ok" ++ 32 ∷ decimal (length text.tokens))
 line_is tokens text line e n = e ∙ ap (λ (k : ℕ). closed (codes "ok" ++ 32 ∷ decimal k)) n
 
-room_for : (state : Kept) (accepted : Bool) (corpus : Corpus) (text : Text) (tokens : ℕ) → kept accepted corpus ≡ state → tokens ≡ length text.tokens → (IsFull corpus.groups tokens → ⊥) → IsFull state.held.groups (length text.tokens) → ⊥
-room_for state accepted corpus text tokens v n room = subst (λ (k : Kept). IsFull k.held.groups (length text.tokens) → ⊥) v (rw n at room)
+room_for : (state : Kept) (accepted : Bool) (grammar : Option Grammar) (corpus : Corpus) (text : Text) (tokens : ℕ) → kept accepted grammar corpus ≡ state → tokens ≡ length text.tokens → (IsFull corpus.groups tokens → ⊥) → IsFull state.held.groups (length text.tokens) → ⊥
+room_for state accepted grammar corpus text tokens v n room = subst (λ (k : Kept). IsFull k.held.groups (length text.tokens) → ⊥) v (rw n at room)
 
-pub text_kept : (state : Kept) (accepted : Bool) (corpus more : Corpus) (text : Text) (tokens : ℕ) (line : List ℕ) (reply : Reply) → kept accepted corpus ≡ state → tokens ≡ length text.tokens → (IsFull corpus.groups tokens → ⊥) →
-    more.registry ≡ corpus.registry → more.groups ≡ corpus.groups ++ alone text ∷ [] → line ≡ closed (codes "ok" ++ 32 ∷ decimal (length text.tokens)) → reply ≡ Lines line →
-    KeepsText state.held text reply (kept accepted more).held
-text_kept state accepted corpus more text tokens line reply v n room r m e is = record {
+pub text_kept : (setting : Setting) (state : Kept) (accepted : Bool) (grammar : Option Grammar) (corpus more : Corpus) (text : Text) (tokens : ℕ) (line : List ℕ) (reply : Reply) → kept accepted grammar corpus ≡ state → tokens ≡ length text.tokens → (IsFull corpus.groups tokens → ⊥) →
+    (IsRich setting state.held text → ⊥) → more.registry ≡ corpus.registry → more.groups ≡ corpus.groups ++ alone text ∷ [] → line ≡ closed (codes "ok" ++ 32 ∷ decimal (length text.tokens)) → reply ≡ Lines line →
+    KeepsText setting state.held text reply (kept accepted grammar more).held
+text_kept setting state accepted grammar corpus more text tokens line reply v n room poor r m e is = record {
   answer = answers.Lines ((codes "ok " ++ decimal (length text.tokens)) ∷ []);
   says = rw is (SaysLines line ((codes "ok " ++ decimal (length text.tokens)) ∷ []) (e ∙ sym (one_line (codes "ok " ++ decimal (length text.tokens)))));
-  holds = rw (text_changed state accepted corpus more text v r m) (KeptText (room_for state accepted corpus text tokens v n room));
+  holds = rw (text_changed state accepted grammar corpus more text v r m) (KeptText (room_for state accepted grammar corpus text tokens v n room) poor);
 }
 
-pub kept_not : (held : Held) (text : Text) → KeepsText held text NoMemory held
-kept_not held text = record { answer = answers.Refused no_memory_line; says = SaysNoMemory; holds = KeptNot }
+pub kept_not : (setting : Setting) (held : Held) (text : Text) → KeepsText setting held text NoMemory held
+kept_not setting held text = record { answer = answers.Refused no_memory_line; says = SaysNoMemory; holds = KeptNot }
 
-pub kept_no_more : (state : Kept) (accepted : Bool) (corpus more : Corpus) (text : Text) (reply : Reply) → kept accepted corpus ≡ state → more ≡ corpus → reply ≡ NoMemory → KeepsText state.held text reply (kept accepted more).held
-kept_no_more state accepted corpus more text reply v m r =
-    subst (λ (held : Held). KeepsText state.held text reply held) (sym (ap (λ (c : Corpus). (kept accepted c).held) m ∙ ap (λ (k : Kept). k.held) v)) (rw r (kept_not state.held text))
+pub kept_no_more : (setting : Setting) (state : Kept) (accepted : Bool) (grammar : Option Grammar) (corpus more : Corpus) (text : Text) (reply : Reply) → kept accepted grammar corpus ≡ state → more ≡ corpus → reply ≡ NoMemory → KeepsText setting state.held text reply (kept accepted grammar more).held
+kept_no_more setting state accepted grammar corpus more text reply v m r =
+    subst (λ (held : Held). KeepsText setting state.held text reply held) (sym (ap (λ (c : Corpus). (kept accepted grammar c).held) m ∙ ap (λ (k : Kept). k.held) v)) (rw r (kept_not setting state.held text))
 
 -- what is held is valid with it
-pub kept_valid : (laws : HeldIsValid) (state : Kept) (accepted : Bool) (corpus more : Corpus) (text : Text) (tokens : ℕ) → kept accepted corpus ≡ state → ValidHeld (kept accepted corpus).held →
+pub kept_valid : (laws : HeldIsValid) (state : Kept) (accepted : Bool) (grammar : Option Grammar) (corpus more : Corpus) (text : Text) (tokens : ℕ) → kept accepted grammar corpus ≡ state → ValidHeld (kept accepted grammar corpus).held →
     ValidText state.held.registry text → (Holds state.held text.name → ⊥) → tokens ≡ length text.tokens → (IsFull corpus.groups tokens → ⊥) → more.registry ≡ corpus.registry → more.groups ≡ corpus.groups ++ alone text ∷ [] →
-    ValidHeld (kept accepted more).held
-kept_valid laws state accepted corpus more text tokens v valid one free n room r m =
-    rw (text_changed state accepted corpus more text v r m)
-    (laws.text state.held text (subst (λ (k : Kept). ValidHeld k.held) v valid) one free (room_for state accepted corpus text tokens v n room))
+    ValidHeld (kept accepted grammar more).held
+kept_valid laws state accepted grammar corpus more text tokens v valid one free n room r m =
+    rw (text_changed state accepted grammar corpus more text v r m)
+    (laws.text state.held text (subst (λ (k : Kept). ValidHeld k.held) v valid) one free (room_for state accepted grammar corpus text tokens v n room))
 
 -- the same mappers serve it
-pub serves_more : (setting : Setting) (mappers others : List (List ℕ × (List ℕ → List ℕ))) (state : Kept) (accepted : Bool) (corpus more : Corpus) → kept accepted corpus ≡ state → others ≡ mappers → more.registry ≡ corpus.registry →
-    (((images : List ℕ → List ℕ → List ℕ) → AgreeWith images mappers corpus.registry → AreImagesBy images corpus.taken → AreImagesBy images more.taken)) → Serves setting mappers state → Serves setting others (kept accepted more)
-serves_more setting mappers others state accepted corpus more v o r taken s =
-    let t : Serves setting mappers (kept accepted corpus) = subst (λ (k : Kept). Serves setting mappers k) (sym v) s in
+pub serves_more : (setting : Setting) (mappers others : List (List ℕ × (List ℕ → List ℕ))) (state : Kept) (accepted : Bool) (grammar : Option Grammar) (corpus more : Corpus) → kept accepted grammar corpus ≡ state → others ≡ mappers → more.registry ≡ corpus.registry →
+    (((images : List ℕ → List ℕ → List ℕ) → AgreeWith images mappers corpus.registry → AreImagesBy images corpus.taken → AreImagesBy images more.taken)) → Serves setting mappers state → Serves setting others (kept accepted grammar more)
+serves_more setting mappers others state accepted grammar corpus more v o r taken s =
+    let t : Serves setting mappers (kept accepted grammar corpus) = subst (λ (k : Kept). Serves setting mappers k) (sym v) s in
     record {
       all = λ e. o ∙ t.all e;
       only = λ e. o ∙ t.only e ∙ ap (λ (registry : Registry). firsts (λ (mapper : List ℕ × (List ℕ → List ℕ)). mapper.0) (is_named registry) [] setting.mappers) (sym r);
@@ -215,17 +236,17 @@ serves_more setting mappers others state accepted corpus more v o r taken s =
       taken = taken (images_of setting) t.agree t.taken;
     }
 
-pub serves_same : (setting : Setting) (mappers others : List (List ℕ × (List ℕ → List ℕ))) (state : Kept) (accepted : Bool) (corpus more : Corpus) → kept accepted corpus ≡ state → others ≡ mappers → more ≡ corpus →
-    Serves setting mappers state → Serves setting others (kept accepted more)
-serves_same setting mappers others state accepted corpus more v o m s = rw (o, m, v) s
+pub serves_same : (setting : Setting) (mappers others : List (List ℕ × (List ℕ → List ℕ))) (state : Kept) (accepted : Bool) (grammar : Option Grammar) (corpus more : Corpus) → kept accepted grammar corpus ≡ state → others ≡ mappers → more ≡ corpus →
+    Serves setting mappers state → Serves setting others (kept accepted grammar more)
+serves_same setting mappers others state accepted grammar corpus more v o m s = rw (o, m, v) s
 
 pub called_named : {M : Type 0} (called : M → List ℕ) (image : M → List ℕ → List ℕ) (mappers : List M) → map (λ mapper. mapper.0) (named called image mappers) ≡ map called mappers
 called_named called image [] = refl
 called_named called image (mapper ∷ mappers) = ap (λ (names : List (List ℕ)). called mapper ∷ names) (called_named called image mappers)
 
-pub mappers_there : {M : Type 0} (called : M → List ℕ) (image : M → List ℕ → List ℕ) (mappers : List M) (setting : Setting) (state : Kept) (accepted : Bool) (corpus : Corpus) → kept accepted corpus ≡ state →
+pub mappers_there : {M : Type 0} (called : M → List ℕ) (image : M → List ℕ → List ℕ) (mappers : List M) (setting : Setting) (state : Kept) (accepted : Bool) (grammar : Option Grammar) (corpus : Corpus) → kept accepted grammar corpus ≡ state →
     Serves setting (named called image mappers) state → AreThere (map called mappers) corpus.registry.attrs
-mappers_there called image mappers setting state accepted corpus v s =
+mappers_there called image mappers setting state accepted grammar corpus v s =
     let t = subst (λ (k : Kept). Serves setting (named called image mappers) k) (sym v) s in
     rw (called_named called image mappers) at t.there
 

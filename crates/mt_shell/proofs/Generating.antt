@@ -22,8 +22,8 @@ pub generate_taken : (setting : Setting) (held : Held) (name : List ℕ) (seed t
 generate_taken setting held name seed tokens reply h g = text_taken setting held name (generated_vertical name seed tokens) reply h g
 
 pub generate_starved : (setting : Setting) (held : Held) (name : List ℕ) (seed tokens : ℕ) → AnswersAlone setting held (Generate name seed tokens) NoMemory held
-generate_starved setting held name seed tokens files = starved (generating (over held files) name seed tokens) (over held files) none_gained Starved
+generate_starved setting held name seed tokens files = starved (generating setting (over held files) name seed tokens) (over held files) none_gained Starved
 
 pub generate_read : (laws : Readings) (setting : Setting) (held new : Held) (name : List ℕ) (seed tokens : ℕ) (bytes : List ℕ) (reply : Reply) → ValidRegistry held.registry → (Holds held name → ⊥) →
-    bytes ≡ generated_vertical name seed tokens → ReadsText held name bytes reply new → AnswersAlone setting held (Generate name seed tokens) reply new
+    bytes ≡ generated_vertical name seed tokens → ReadsText setting held name bytes reply new → AnswersAlone setting held (Generate name seed tokens) reply new
 generate_read laws setting held new name seed tokens bytes reply valid free e r = text_read laws setting held new name (generated_vertical name seed tokens) reply valid free (rw e at r)

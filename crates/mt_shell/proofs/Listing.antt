@@ -1,5 +1,5 @@
 -- What the reply to `segments` means.
-use Rattle.std.proofs.Common.{◌≡◌, ℕ, zero, suc, Bool, true, false, ◌+◌, ◌<◌, ◌≤◌, arith, get_or, List, [], ◌∷◌, ◌++◌, length, map, take, sum, refl, sym, ◌∙◌, ap, ap₂, subst, codes, append-nil, append_assoc}
+use Rattle.std.proofs.Common.{◌≡◌, ℕ, zero, suc, Bool, true, false, Option, ◌+◌, ◌<◌, ◌≤◌, arith, get_or, List, [], ◌∷◌, ◌++◌, length, map, take, sum, refl, sym, ◌∙◌, ap, ap₂, subst, codes, append-nil, append_assoc}
 use Rattle.std.specs.List.{All, AllZip, flat_map}
 use Rattle.std.specs.Fmt.{decimal}
 use Rattle.std.proofs.lemmas.List.{take_all, length_push}
@@ -8,6 +8,7 @@ use Rattle.std.proofs.lemmas.Grind.{flat_map-append}
 use Rattle.mt_text_spec.specs.Lines.{closed}
 use Rattle.mt_text_spec.specs.Registries.{Registry}
 use Rattle.mt_text_spec.specs.Texts.{Text, total_tokens}
+use Rattle.mt_text_spec.specs.Queries.{Grammar}
 use Rattle.mt_segment_spec.specs.Tables.{Tables, AreTablesOf, heads_of}
 use Rattle.mt_corpus_spec.specs.Groups.{Group, all_texts, live_texts}
 use Rattle.mt_corpus_spec.specs.Images.{Corpus, AreImagesBy}
@@ -160,12 +161,12 @@ listed setting held images segments live bytes stand e files =
       holds = Meant world (answers.Lines (group_lines held.groups)) (Accepted world (answers.Lines (group_lines held.groups)) tt (record { same = refl; says = refl }));
     }
 
-pub listed_by : (setting : Setting) (state : Kept) (accepted : Bool) (corpus : Corpus) (segments : List Tables) (live : List (List ℕ)) (bytes : List ℕ) → kept accepted corpus ≡ state → AreImagesBy (images_of setting) state.taken →
+pub listed_by : (setting : Setting) (state : Kept) (accepted : Bool) (grammar : Option Grammar) (corpus : Corpus) (segments : List Tables) (live : List (List ℕ)) (bytes : List ℕ) → kept accepted grammar corpus ≡ state → AreImagesBy (images_of setting) state.taken →
     ((images : List ℕ → List ℕ → List ℕ) → AreImagesBy images corpus.taken → StandFor images corpus.registry corpus.groups segments live) → bytes ≡ flat_map closed (lines_listed segments live) →
     AnswersAlone setting state.held Segments (Lines bytes) state.held
-listed_by setting state accepted corpus segments live bytes v agree stand e =
+listed_by setting state accepted grammar corpus segments live bytes v agree stand e =
     let images : AreImagesBy (images_of setting) corpus.taken = rw (← (ap (λ (k : Kept). k.taken) v)) at agree in
-    subst (λ (k : Kept). AnswersAlone setting k.held Segments (Lines bytes) k.held) v (listed setting (kept accepted corpus).held (images_of setting) segments live bytes (stand (images_of setting) images) e)
+    subst (λ (k : Kept). AnswersAlone setting k.held Segments (Lines bytes) k.held) v (listed setting (kept accepted grammar corpus).held (images_of setting) segments live bytes (stand (images_of setting) images) e)
 
 pub not_listed : (setting : Setting) (held : Held) → AnswersAlone setting held Segments NoMemory held
 not_listed setting held files = starved (listing (over held files)) (over held files) none_gained Starved

@@ -1,7 +1,8 @@
 -- What the replies to `registry` mean.
-use Rattle.std.proofs.Common.{◌≡◌, ◌⊎◌, inl, inr, ℕ, Bool, true, false, if◌then◌else◌, map, subst, List, [], ◌∷◌, ◌++◌, refl, sym, ◌∙◌, ap, append-nil}
+use Rattle.std.proofs.Common.{◌≡◌, ◌⊎◌, inl, inr, ℕ, Bool, Option, None, true, false, if◌then◌else◌, map, subst, List, [], ◌∷◌, ◌++◌, refl, sym, ◌∙◌, ap, append-nil}
 use Rattle.mt_text_spec.specs.Lines.{closed}
 use Rattle.mt_text_spec.specs.Registries.{Registry}
+use Rattle.mt_text_spec.specs.Queries.{Grammar}
 use Rattle.mt_shelf_spec.specs.Files.{Files}
 use Rattle.mt_file_spec.specs.RegistryFile.{ReadsRegistry as Reads, FirstRegistryFault, LacksBase, RegistryCause}
 use Rattle.mt_registry.specs.RegistryLaws.{AreApart}
@@ -118,8 +119,8 @@ unread setting held bytes = record { answer = answers.Refused no_memory_line; sa
 abbrev bare : Registry → Corpus
 bare registry = record { registry = registry; groups = []; taken = [] }
 
-pub registry_changed : (state : Kept) (accepted : Bool) (corpus none : Corpus) (registry : Registry) → kept accepted corpus ≡ state → none ≡ bare registry → (kept true none).held ≡ with_registry state.held registry
-registry_changed state accepted corpus none registry v n = ap (λ (c : Corpus). (kept true c).held) n ∙ ap (λ (k : Kept). with_registry k.held registry) v
+pub registry_changed : (state : Kept) (accepted : Bool) (grammar : Option Grammar) (corpus none : Corpus) (registry : Registry) → kept accepted grammar corpus ≡ state → none ≡ bare registry → (kept true None none).held ≡ with_registry state.held registry
+registry_changed state accepted grammar corpus none registry v n = ap (λ (c : Corpus). (kept true None c).held) n ∙ ap (λ (k : Kept). with_registry k.held registry) v
 
 pub same_image : (mappers : List (List ℕ × (List ℕ → List ℕ))) (name value : List ℕ) → by_setting mappers name value ≡ by_segment mappers name value
 same_image [] name value = refl
@@ -133,8 +134,8 @@ pub not_yet : true ≡ false → ⊥
 not_yet e = cc
 
 pub serves_registry : (setting : Setting) (old new : List (List ℕ × (List ℕ → List ℕ))) (state : Kept) (registry : Registry) (none : Corpus) → none ≡ bare registry → Serves setting old state → state.held.accepted ≡ false →
-    AreThere (map (λ mapper. mapper.0) new) registry.attrs → AgreeWith (by_segment old) new registry → new ≡ firsts (λ mapper. mapper.0) (is_named registry) [] old → Serves setting new (kept true none)
-serves_registry setting old new state registry none n s early there agree left = subst (λ (c : Corpus). Serves setting new (kept true c)) (sym n) (record {
+    AreThere (map (λ mapper. mapper.0) new) registry.attrs → AgreeWith (by_segment old) new registry → new ≡ firsts (λ mapper. mapper.0) (is_named registry) [] old → Serves setting new (kept true None none)
+serves_registry setting old new state registry none n s early there agree left = subst (λ (c : Corpus). Serves setting new (kept true None c)) (sym n) (record {
   all = λ e. absurd (not_yet e);
   only = λ e. left ∙ ap (firsts (λ (mapper : List ℕ × (List ℕ → List ℕ)). mapper.0) (is_named registry) []) (s.all early);
   there = there;

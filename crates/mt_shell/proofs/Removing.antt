@@ -1,8 +1,9 @@
 -- What the replies to `remove` mean.
-use Rattle.std.proofs.Common.{◌≡◌, inl, ℕ, Bool, List, [], ◌∷◌, ◌++◌, length, refl, sym, ◌∙◌, ap, subst, codes, append-nil}
+use Rattle.std.proofs.Common.{◌≡◌, inl, ℕ, Bool, Option, List, [], ◌∷◌, ◌++◌, length, refl, sym, ◌∙◌, ap, subst, codes, append-nil}
 use Rattle.std.specs.Fmt.{decimal}
 use Rattle.std.specs.List.{Any}
 use Rattle.mt_text_spec.specs.Lines.{closed}
+use Rattle.mt_text_spec.specs.Queries.{Grammar}
 use Rattle.mt_corpus_spec.specs.Groups.{without, HoldsName}
 use Rattle.mt_corpus_spec.specs.Images.{Corpus}
 use Rattle.mt_script_spec.specs.Commands.{Remove}
@@ -26,17 +27,17 @@ use Rattle.mt_shell.proofs.Meanings.{declined, starved, no_cause}
 abbrev less : Corpus → List ℕ → Corpus
 less corpus name = record corpus { groups = without name corpus.groups }
 
-at_corpus : (setting : Setting) (accepted : Bool) (corpus more : Corpus) (name : List ℕ) (tokens : ℕ) (line : List ℕ) → more ≡ less corpus name →
+at_corpus : (setting : Setting) (accepted : Bool) (grammar : Option Grammar) (corpus more : Corpus) (name : List ℕ) (tokens : ℕ) (line : List ℕ) → more ≡ less corpus name →
     Any (λ text. (text.name ≡ name) × (length text.tokens ≡ tokens)) (corpus_of corpus.groups) → line ≡ closed (codes "ok " ++ decimal tokens) →
-    AnswersAlone setting (kept accepted corpus).held (Remove name) (Lines line) (kept accepted more).held
-at_corpus setting accepted corpus more name tokens line m found e files =
-    let held = (kept accepted corpus).held in
+    AnswersAlone setting (kept accepted grammar corpus).held (Remove name) (Lines line) (kept accepted grammar more).held
+at_corpus setting accepted grammar corpus more name tokens line m found e files =
+    let held = (kept accepted grammar corpus).held in
     let said : List (List ℕ) = (codes "ok " ++ decimal tokens) ∷ [] in
-    let changed : (kept accepted more).held ≡ without_text (kept accepted corpus).held name = ap (λ (c : Corpus). (kept accepted c).held) m in
+    let changed : (kept accepted grammar more).held ≡ without_text (kept accepted grammar corpus).held name = ap (λ (c : Corpus). (kept accepted grammar c).held) m in
     record {
       answer = answers.Lines said;
       says = SaysLines line said (e ∙ sym (append-nil (closed (codes "ok " ++ decimal tokens))));
-      holds = Meant (over (kept accepted more).held files) (answers.Lines said) (Accepted (over (kept accepted more).held files) (answers.Lines said)
+      holds = Meant (over (kept accepted grammar more).held files) (answers.Lines said) (Accepted (over (kept accepted grammar more).held files) (answers.Lines said)
           (no_cause (λ none. none (found.0, found.1, found.2, found.3, found.4.0)), tt)
           (record {
             text = found.1;
@@ -47,34 +48,34 @@ at_corpus setting accepted corpus more name tokens line m found e files =
           }));
     }
 
-pub removed : (setting : Setting) (state : Kept) (accepted : Bool) (corpus more : Corpus) (name : List ℕ) (tokens : ℕ) (line : List ℕ) → kept accepted corpus ≡ state → more ≡ less corpus name →
+pub removed : (setting : Setting) (state : Kept) (accepted : Bool) (grammar : Option Grammar) (corpus more : Corpus) (name : List ℕ) (tokens : ℕ) (line : List ℕ) → kept accepted grammar corpus ≡ state → more ≡ less corpus name →
     Any (λ text. (text.name ≡ name) × (length text.tokens ≡ tokens)) (corpus_of corpus.groups) → line ≡ closed (codes "ok " ++ decimal tokens) →
-    AnswersAlone setting state.held (Remove name) (Lines line) (kept accepted more).held
-removed setting state accepted corpus more name tokens line v m found e =
-    subst (λ (k : Kept). AnswersAlone setting k.held (Remove name) (Lines line) (kept accepted more).held) v (at_corpus setting accepted corpus more name tokens line m found e)
+    AnswersAlone setting state.held (Remove name) (Lines line) (kept accepted grammar more).held
+removed setting state accepted grammar corpus more name tokens line v m found e =
+    subst (λ (k : Kept). AnswersAlone setting k.held (Remove name) (Lines line) (kept accepted grammar more).held) v (at_corpus setting accepted grammar corpus more name tokens line m found e)
 
-removed_none : (setting : Setting) (state : Kept) (accepted : Bool) (corpus : Corpus) (name : List ℕ) (reply : Reply) → kept accepted corpus ≡ state → (HoldsName corpus.groups name → ⊥) →
+removed_none : (setting : Setting) (state : Kept) (accepted : Bool) (grammar : Option Grammar) (corpus : Corpus) (name : List ℕ) (reply : Reply) → kept accepted grammar corpus ≡ state → (HoldsName corpus.groups name → ⊥) →
     Given (answers.Refused (refusal_line (NoSuchText name))) reply → AnswersAlone setting state.held (Remove name) reply state.held
-removed_none setting state accepted corpus name reply v free g files =
+removed_none setting state accepted grammar corpus name reply v free g files =
     declined (removing (over state.held files) name) (over state.held files) none_gained (NoSuchText name) reply
     (inl (record { is = refl; there = subst (λ (k : Kept). HoldsName k.held.groups name → ⊥) v free })) Starved g
 
-pub none_removed : (setting : Setting) (state : Kept) (accepted : Bool) (corpus more : Corpus) (name : List ℕ) (reply : Reply) → kept accepted corpus ≡ state → more ≡ corpus → (HoldsName corpus.groups name → ⊥) →
-    Given (answers.Refused (refusal_line (NoSuchText name))) reply → AnswersAlone setting state.held (Remove name) reply (kept accepted more).held
-none_removed setting state accepted corpus more name reply v m free g =
-    subst (λ (held : Held). AnswersAlone setting state.held (Remove name) reply held) (sym (ap (λ (c : Corpus). (kept accepted c).held) m ∙ ap (λ (k : Kept). k.held) v))
-    (removed_none setting state accepted corpus name reply v free g)
+pub none_removed : (setting : Setting) (state : Kept) (accepted : Bool) (grammar : Option Grammar) (corpus more : Corpus) (name : List ℕ) (reply : Reply) → kept accepted grammar corpus ≡ state → more ≡ corpus → (HoldsName corpus.groups name → ⊥) →
+    Given (answers.Refused (refusal_line (NoSuchText name))) reply → AnswersAlone setting state.held (Remove name) reply (kept accepted grammar more).held
+none_removed setting state accepted grammar corpus more name reply v m free g =
+    subst (λ (held : Held). AnswersAlone setting state.held (Remove name) reply held) (sym (ap (λ (c : Corpus). (kept accepted grammar c).held) m ∙ ap (λ (k : Kept). k.held) v))
+    (removed_none setting state accepted grammar corpus name reply v free g)
 
 pub removed_not : (setting : Setting) (held : Held) (name : List ℕ) → AnswersAlone setting held (Remove name) NoMemory held
 removed_not setting held name files = starved (removing (over held files) name) (over held files) none_gained Starved
 
-pub removed_valid : (laws : HeldIsValid) (accepted : Bool) (corpus more : Corpus) (name : List ℕ) → more ≡ less corpus name → ValidHeld (kept accepted corpus).held → ValidHeld (kept accepted more).held
-removed_valid laws accepted corpus more name m valid =
-    subst (λ (c : Corpus). ValidHeld (kept accepted c).held) (sym m) (laws.without (kept accepted corpus).held name valid)
+pub removed_valid : (laws : HeldIsValid) (accepted : Bool) (grammar : Option Grammar) (corpus more : Corpus) (name : List ℕ) → more ≡ less corpus name → ValidHeld (kept accepted grammar corpus).held → ValidHeld (kept accepted grammar more).held
+removed_valid laws accepted grammar corpus more name m valid =
+    subst (λ (c : Corpus). ValidHeld (kept accepted grammar c).held) (sym m) (laws.without (kept accepted grammar corpus).held name valid)
 
-pub serves_less : (setting : Setting) (mappers : List (List ℕ × (List ℕ → List ℕ))) (state : Kept) (accepted : Bool) (corpus more : Corpus) (name : List ℕ) → kept accepted corpus ≡ state → more ≡ less corpus name →
-    Serves setting mappers state → Serves setting mappers (kept accepted more)
-serves_less setting mappers state accepted corpus more name v m s =
-    let t : Serves setting mappers (kept accepted corpus) = subst (λ (k : Kept). Serves setting mappers k) (sym v) s in
-    let u : Serves setting mappers (kept accepted (less corpus name)) = record { all = t.all; only = t.only; there = t.there; agree = t.agree; taken = t.taken } in
-    subst (λ (c : Corpus). Serves setting mappers (kept accepted c)) (sym m) u
+pub serves_less : (setting : Setting) (mappers : List (List ℕ × (List ℕ → List ℕ))) (state : Kept) (accepted : Bool) (grammar : Option Grammar) (corpus more : Corpus) (name : List ℕ) → kept accepted grammar corpus ≡ state → more ≡ less corpus name →
+    Serves setting mappers state → Serves setting mappers (kept accepted grammar more)
+serves_less setting mappers state accepted grammar corpus more name v m s =
+    let t : Serves setting mappers (kept accepted grammar corpus) = subst (λ (k : Kept). Serves setting mappers k) (sym v) s in
+    let u : Serves setting mappers (kept accepted grammar (less corpus name)) = record { all = t.all; only = t.only; there = t.there; agree = t.agree; taken = t.taken } in
+    subst (λ (c : Corpus). Serves setting mappers (kept accepted grammar c)) (sym m) u

@@ -3,6 +3,7 @@ use Rattle.std.proofs.Common.{◌≡◌, ℕ, inl, inr, true, List, [], ◌∷�
 use Rattle.mt_shelf_spec.specs.Files.{Files}
 use Rattle.mt_script_spec.specs.Commands.{Quit}
 use Rattle.mt_script_spec.specs.Script.{Item, Given}
+use Rattle.mt_session_spec.specs.World.{first_held}
 use Rattle.mt_session_spec.specs.Settings.{Setting}
 use Rattle.mt_session_spec.specs.Gains.{Gained, none_gained}
 use Rattle.mt_session_spec.specs.Answers.{Answer, output_of}
@@ -24,7 +25,7 @@ none_more start end written output stored gained n l =
     ap (λ a. P a gained.refused) f ∙ ap (λ b. P [] b) r
 
 the_answers : {setting : Setting} → (said : ItemsAreSaid) (answers_of : RepliesAreAnswers) (items : List Item) (files : Files) (told : Option Files) (gained : Gained) (answers : List Answer) (last : Known) → told ≡ Some files → gained ≡ none_gained →
-    All IsSaidItem items → Replies setting items (first_known told) gained answers last → NoneStarved answers → NoneDeep items → AreTheAnswers setting items files answers
+    All IsSaidItem items → Replies setting items (first_known told) gained answers last → NoneStarved answers → NoneDeep setting items (record { held = first_held; files = files }) → AreTheAnswers setting items files answers
 the_answers {setting = setting} said answers_of items files told gained answers last t g all r none deep =
     answers_of setting items files answers last all (subst (λ (o : Option Files). Replies setting items (first_known o) none_gained answers last) t
     (subst (λ (h : Gained). Replies setting items (first_known told) h answers last) g r)) none deep

@@ -1,6 +1,7 @@
 -- What the replies to questions mean, to commands that are not built yet, and to `quit`.
-use Rattle.std.proofs.Common.{◌≡◌, inl, inr, ℕ, Bool, List, None, refl, ap, subst}
+use Rattle.std.proofs.Common.{◌≡◌, inl, inr, ℕ, Bool, List, Option, refl, ap, subst}
 use Rattle.mt_text_spec.specs.Lines.{closed}
+use Rattle.mt_text_spec.specs.Queries.{Grammar}
 use Rattle.mt_script_spec.specs.Commands.{Ask, Asks, Quit}
 use Rattle.mt_session_spec.specs.World.{Held, World}
 use Rattle.mt_corpus_spec.specs.Images.{Corpus, Image, AreImagesBy}
@@ -34,15 +35,15 @@ ask_steps asked world gained answer (AskAnswered lines none a) = Meant world (an
 ask_steps asked world gained answer AskStarved = Excepted world (answers.Refused no_memory_line) QuestionStarved
 ask_steps asked world gained answer (AskExcepted line e) = Excepted world (answers.Refused line) (QuestionExcepted line e)
 
-pub asks : (setting : Setting) (held : Held) (ask : Ask) (reply : Reply) (corpus : Corpus) (accepted : Bool) (taken : List Image) (before after : List (List ℕ)) → kept accepted corpus ≡ record { held = held; taken = taken } →
+pub asks : (setting : Setting) (held : Held) (ask : Ask) (reply : Reply) (corpus : Corpus) (accepted : Bool) (grammar : Option Grammar) (taken : List Image) (before after : List (List ℕ)) → kept accepted grammar corpus ≡ record { held = held; taken = taken } →
     AreImagesBy (images_of setting) taken → AnswersAsk corpus ask before after reply → AnswersBeside setting held (Asks ask) reply held before after
-asks setting held ask reply corpus accepted taken before after v agree a = record {
+asks setting held ask reply corpus accepted grammar taken before after v agree a = record {
   refused = a.refused;
   more = a.more;
   answers = λ files.
       let images : AreImagesBy (images_of setting) corpus.taken = rw (← (ap (λ (k : Kept). k.taken) v)) at agree in
-      let s = a.answers (images_of setting) None images in
-      let same : seen (images_of setting) corpus None ≡ scene_of setting held = ap (λ (k : Kept). scene_of setting k.held) v in
+      let s = a.answers (images_of setting) grammar images in
+      let same : seen (images_of setting) corpus grammar ≡ scene_of setting held = ap (λ (k : Kept). scene_of setting k.held) v in
       record {
         answer = s.answer;
         says = s.says;
@@ -51,8 +52,8 @@ asks setting held ask reply corpus accepted taken before after v agree a = recor
 }
 
 -- the images that were taken are those of some mappers
-pub some_images : (setting : Setting) (held : Held) (corpus : Corpus) (accepted : Bool) (taken : List Image) → kept accepted corpus ≡ record { held = held; taken = taken } → AreImagesBy (images_of setting) taken → HasImages corpus
-some_images setting held corpus accepted taken v agree = record { images = images_of setting; agree = rw (← (ap (λ (k : Kept). k.taken) v)) at agree }
+pub some_images : (setting : Setting) (held : Held) (corpus : Corpus) (accepted : Bool) (grammar : Option Grammar) (taken : List Image) → kept accepted grammar corpus ≡ record { held = held; taken = taken } → AreImagesBy (images_of setting) taken → HasImages corpus
+some_images setting held corpus accepted grammar taken v agree = record { images = images_of setting; agree = rw (← (ap (λ (k : Kept). k.taken) v)) at agree }
 
 -- ## Commands that are not built yet
 

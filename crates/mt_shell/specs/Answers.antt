@@ -1,17 +1,19 @@
 -- What a session's replies say.
-use Rattle.std.specs.Prelude.{ℕ, ◌≡◌, List, [], ◌∷◌, ◌++◌, length, codes}
+use Rattle.std.specs.Prelude.{ℕ, ◌≡◌, List, [], ◌∷◌, ◌++◌, length, codes, Some}
 use Rattle.std.specs.Fmt.{decimal}
 use Rattle.mt_text_spec.specs.Registries.{Registry}
 use Rattle.mt_text_spec.specs.Texts.{Text}
+use Rattle.mt_text_spec.specs.Queries.{Grammar}
 use Rattle.mt_file_spec.specs.RegistryFile.{ReadsRegistry as Reads, FirstRegistryFault, LacksBase, RegistryCause}
 use Rattle.mt_file_spec.specs.Vertical.{Vertical, FirstTextFault, TextCause}
 use Rattle.mt_shelf_spec.specs.Files.{Files}
+use Rattle.mt_rule_spec.specs.Rules.{HasTooManyIn}
 use Rattle.mt_script_spec.specs.Commands.{Command}
 use Rattle.mt_script_spec.specs.Script as script
 use Rattle.mt_session_spec.specs.World.{Held, World, with_text, IsFull}
-use Rattle.mt_session_spec.specs.Settings.{Setting, mapper_names}
+use Rattle.mt_session_spec.specs.Settings.{Setting, mapper_names, images_of}
 use Rattle.mt_session_spec.specs.Gains.{Gained, none_gained}
-use Rattle.mt_session_spec.specs.Refusals.{BadRegistry, NoAttribute, BadVertical, CorpusFull, refusal_line, no_memory_line, ok_line}
+use Rattle.mt_session_spec.specs.Refusals.{BadRegistry, NoAttribute, BadVertical, CorpusFull, TooManyRows, refusal_line, no_memory_line, ok_line}
 use Rattle.mt_session_spec.specs.Answers as answers
 use Rattle.mt_session_spec.specs.Registering.{with_registry}
 use Rattle.mt_session_spec.specs.Steps.{Step}
@@ -77,20 +79,28 @@ pub data Registers (setting : Setting) (held : Held) (bytes : List ℕ) : answer
 abbrev pub ReadsRegistry : Setting → Held → List ℕ → Reply → Held → Type 0
 ReadsRegistry setting held bytes said new = SaysOf (λ answer. Registers setting held bytes answer new) said
 
--- What is done with a text whose name is free: no room, or it is held from now on.
-pub data Keeps (held : Held) (text : Text) : answers.Answer → Held → Type 0 where
-  NoRoom : IsFull held.groups (length text.tokens) → Keeps held text (answers.Refused (refusal_line CorpusFull)) held
-  Kept : (IsFull held.groups (length text.tokens) → ⊥) → Keeps held text (answers.Lines ((codes "ok " ++ decimal (length text.tokens)) ∷ [])) (with_text held text)
-  KeptNot : Keeps held text (answers.Refused no_memory_line) held
+-- some query of the grammar that is held has too many rows in the text
+pub record IsRich (setting : Setting) (held : Held) (text : Text) : Type 0 where
+  pub grammar : Grammar
+  pub ruled : held.grammar ≡ Some grammar
+  pub many : HasTooManyIn (images_of setting) held.registry grammar text
 
-abbrev pub KeepsText : Held → Text → Reply → Held → Type 0
-KeepsText held text said new = SaysOf (λ answer. Keeps held text answer new) said
+-- What is done with a text whose name is free: no room, or too many rows, or it is held from now on.
+pub data Keeps (setting : Setting) (held : Held) (text : Text) : answers.Answer → Held → Type 0 where
+  NoRoom : IsFull held.groups (length text.tokens) → Keeps setting held text (answers.Refused (refusal_line CorpusFull)) held
+  TooRich : (IsFull held.groups (length text.tokens) → ⊥) → IsRich setting held text → Keeps setting held text (answers.Refused (refusal_line TooManyRows)) held
+  Kept : (IsFull held.groups (length text.tokens) → ⊥) → (IsRich setting held text → ⊥) →
+      Keeps setting held text (answers.Lines ((codes "ok " ++ decimal (length text.tokens)) ∷ [])) (with_text held text)
+  KeptNot : Keeps setting held text (answers.Refused no_memory_line) held
+
+abbrev pub KeepsText : Setting → Held → Text → Reply → Held → Type 0
+KeepsText setting held text said new = SaysOf (λ answer. Keeps setting held text answer new) said
 
 -- What is done with bytes under a free name: they are no text, or their text is kept or not.
-pub data Takes (held : Held) (name bytes : List ℕ) : answers.Answer → Held → Type 0 where
-  Faulty : (line : ℕ) (cause : TextCause) → FirstTextFault held.registry bytes line cause → Takes held name bytes (answers.Refused (refusal_line (BadVertical line cause))) held
-  Sound : (text : Text) (answer : answers.Answer) (new : Held) → Vertical held.registry name bytes text → Keeps held text answer new → Takes held name bytes answer new
-  TakenNot : Takes held name bytes (answers.Refused no_memory_line) held
+pub data Takes (setting : Setting) (held : Held) (name bytes : List ℕ) : answers.Answer → Held → Type 0 where
+  Faulty : (line : ℕ) (cause : TextCause) → FirstTextFault held.registry bytes line cause → Takes setting held name bytes (answers.Refused (refusal_line (BadVertical line cause))) held
+  Sound : (text : Text) (answer : answers.Answer) (new : Held) → Vertical held.registry name bytes text → Keeps setting held text answer new → Takes setting held name bytes answer new
+  TakenNot : Takes setting held name bytes (answers.Refused no_memory_line) held
 
-abbrev pub ReadsText : Held → List ℕ → List ℕ → Reply → Held → Type 0
-ReadsText held name bytes said new = SaysOf (λ answer. Takes held name bytes answer new) said
+abbrev pub ReadsText : Setting → Held → List ℕ → List ℕ → Reply → Held → Type 0
+ReadsText setting held name bytes said new = SaysOf (λ answer. Takes setting held name bytes answer new) said

@@ -1,5 +1,6 @@
 -- What is held, with the images that were taken for it, and which mappers it is right for.
-use Rattle.std.specs.Prelude.{ℕ, ◌≡◌, Bool, true, false, List, [], map, None}
+use Rattle.std.specs.Prelude.{ℕ, ◌≡◌, Bool, true, false, List, [], map, Option}
+use Rattle.mt_text_spec.specs.Queries.{Grammar}
 use Rattle.mt_corpus_spec.specs.Images.{Corpus, Image, AreImagesBy}
 use Rattle.mt_segment.specs.Mappers.{AreThere}
 use Rattle.mt_corpus.specs.Keeping.{AgreeWith, firsts, is_named}
@@ -11,9 +12,9 @@ pub record Kept : Type 0 where
   pub held : Held
   pub taken : List Image
 
--- a corpus that is held, and whether a registry was accepted; there is no grammar yet
-abbrev pub kept : Bool → Corpus → Kept
-kept accepted corpus = record { held = record { registry = corpus.registry; accepted = accepted; grammar = None; groups = corpus.groups }; taken = corpus.taken }
+-- a corpus that is held, a grammar where there is one, and whether a registry was accepted
+abbrev pub kept : Bool → Option Grammar → Corpus → Kept
+kept accepted grammar corpus = record { held = record { registry = corpus.registry; accepted = accepted; grammar = grammar; groups = corpus.groups }; taken = corpus.taken }
 
 -- the setting in which these mappers are at hand
 abbrev pub setting_of : List (List ℕ × (List ℕ → List ℕ)) → Setting

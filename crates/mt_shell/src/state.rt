@@ -33,6 +33,7 @@ pub struct State {
 }
 
 impl Model for State {
+    ghost use Rattle.std.specs.Prelude.{None};
     ghost use Rattle.std.specs.Coded.{codes};
     ghost use Rattle.mt_session_spec.specs.World.{ValidHeld};
     ghost use Rattle.mt_shell.specs.Codes.{expr_code, filters_code};
@@ -42,9 +43,9 @@ impl Model for State {
 
     ghost coded = { Prim.hlevel (codes, expr_code, filters_code) };
 
-    ghost view = { λ s. kept s.accepted s.corpus };
+    ghost view = { λ s. kept s.accepted None s.corpus };
 
-    ghost invariant = { λ s. ValidHeld (kept s.accepted s.corpus).held };
+    ghost invariant = { λ s. ValidHeld (kept s.accepted None s.corpus).held };
 }
 
 impl State {

@@ -100,7 +100,7 @@ impl State {
         requires named { IsName name.now }
         requires free { Holds self.old.held name.now → ⊥ }
         requires serves { Serves setting (named M.called M.image mappers.old.items) self.old }
-        ensures means { ReadsText self.old.held name.now bytes.now result self.new.held }
+        ensures means { ReadsText setting self.old.held name.now bytes.now result self.new.held }
         ensures serves { Serves setting (named M.called M.image mappers.new.items) self.new }
     {
         valid_texts();
@@ -120,7 +120,7 @@ impl State {
         requires free { Holds self.old.held text.name → ⊥ }
         requires valid { ValidText self.old.held.registry text }
         requires serves { Serves setting (named M.called M.image mappers.old.items) self.old }
-        ensures means { KeepsText self.old.held text result self.new.held }
+        ensures means { KeepsText setting self.old.held text result self.new.held }
         ensures serves { Serves setting (named M.called M.image mappers.new.items) self.new }
     {
         held_is_valid();

@@ -1,3 +1,4 @@
+use Rattle.std.proofs.Common.{None}
 use Rattle.mt_segment.specs.Mappers.{named}
 use Rattle.mt_shell.proofs.Dropping.{named_left}
 use Rattle.mt_shell.proofs.Registering.{set, set_not, registry_changed, serves_registry, names_there}
@@ -8,7 +9,7 @@ returns-in_default-clause-means g c = set_not c.args.self.now.held c.args.regist
 
 pub returns-clause-means : goal.returns-clause-means
 returns-clause-means g c = set c.args.self.now.held _ c.args.registry c.in-Ok.line c.in-Ok.ensures
-    (registry_changed c.args.self.now c.self.inside.accepted c.self.inside.corpus c.new.result c.args.registry c.self.view_is c.new.ensures)
+    (registry_changed c.args.self.now c.self.inside.accepted None c.self.inside.corpus c.new.result c.args.registry c.self.view_is c.new.ensures)
 
 pub returns-clause-serves : goal.returns-clause-serves
 returns-clause-serves g c =
