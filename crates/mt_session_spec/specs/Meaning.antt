@@ -48,10 +48,6 @@ pub record Question : Type 1 where
 abbrev pub ExceptsNone : Gained → List ℕ → Type 0
 ExceptsNone gained line = ⊥
 
--- what is not built yet is a bad command
-abbrev pub unbuilt_question : Question
-unbuilt_question = record { checks = When (Unit {0}) BadCommand ∷ []; Answers = λ lines. ⊥; Excepts = ExceptsNone }
-
 -- the lines answer the question, and nothing has changed
 pub record AnswersQuestion (question : Question) (world new : World) (answer : Answer) : Type 0 where
   pub lines : List (List ℕ)
