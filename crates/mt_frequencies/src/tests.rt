@@ -156,32 +156,11 @@ fn colloc(
 #[test]
 fn replies(rt: HostRuntime) -> Result<(), Fail> {
     let alloc = rt.alloc();
-    let first = Span::new(0, 0, 1);
-    let mid = Span::new(0, 1, 2);
-    let last = Span::new(0, 2, 3);
-    let cat = two_texts(alloc, "the\ncat\nthe\n", "the\ncat\n", false)?;
-    let all = freq(alloc, &cat, &[first, mid, last], 0)?;
-    assert_eq!(rt; all.as_slice(), "= 2\nthe\t2\ncat\t1\n".as_bytes());
-    let before = freq(alloc, &cat, &[first, mid, last], -1)?;
-    assert_eq!(rt; before.as_slice(), "= 2\ncat\t1\nthe\t1\n".as_bytes());
-    let near = colloc(alloc, &cat, &[mid], -1, 1, 1)?;
-    assert_eq!(rt; near.as_slice(), "= 1\nthe\t1\t2\t13.3750\n".as_bytes());
     let cats = two_texts(alloc, "the\ncat\nthe\n", "the\ncat\n", true)?;
-    let near = colloc(alloc, &cats, &[mid], -1, 1, 1)?;
-    assert_eq!(rt; near.as_slice(), "= 1\nthe\t1\t3\t13.0000\n".as_bytes());
-    let behind = colloc(alloc, &cats, &[last, Span::new(1, 1, 2)], 1, 9, 0)?;
-    assert_eq!(rt; behind.as_slice(), "= 0\n".as_bytes());
-    let letters = two_texts(alloc, "a\nb\na\n", "", true)?;
-    let near = colloc(alloc, &letters, &[first, last], -1, 1, 2)?;
-    assert_eq!(rt; near.as_slice(), "= 1\nb\t2\t1\t14.3750\n".as_bytes());
-    let around = colloc(alloc, &letters, &[first, last], -2, 2, 1)?;
-    assert_eq!(rt;
-        around.as_slice(),
-        "= 2\nb\t2\t1\t14.3750\na\t2\t2\t14.0000\n".as_bytes()
-    );
-    let few = colloc(alloc, &letters, &[first, last], -2, 2, 3)?;
-    assert_eq!(rt; few.as_slice(), "= 0\n".as_bytes());
-    let long = colloc(alloc, &letters, &[Span::new(0, 0, 2)], 1, 1, 1)?;
-    assert_eq!(rt; long.as_slice(), "= 1\na\t1\t2\t13.3750\n".as_bytes());
+    let spans = [Span::new(0, 1, 2), Span::new(1, 1, 2)];
+    let before = freq(alloc, &cats, &spans, -1)?;
+    assert_eq!(rt; before.as_slice(), "= 1\nthe\t2\n".as_bytes());
+    let near = colloc(alloc, &cats, &spans, -1, 1, 1)?;
+    assert_eq!(rt; near.as_slice(), "= 1\nthe\t2\t3\t13.6250\n".as_bytes());
     Ok(())
 }
