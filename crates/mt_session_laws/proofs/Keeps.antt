@@ -7,33 +7,36 @@ use Rattle.mt_text_spec.specs.Queries.{Query}
 use Rattle.mt_query_spec.specs.Contents.{patterns}
 use Rattle.mt_vertical.specs.TextLaws.{ValidTexts}
 use Rattle.mt_registry.specs.RegistryLaws.{ValidRegistries}
+use Rattle.mt_grammar_laws.specs.Laws.{ReadGrammarIsValid}
+use Rattle.mt_rule_spec.specs.Rules.{grammar_patterns}
 use Rattle.mt_script_spec.specs.Commands as command
 use Rattle.mt_script_spec.specs.Commands.{Ask, Command}
 use Rattle.mt_script_spec.specs.Script as script
 use Rattle.mt_generate_spec.specs.Verticals.{generated_vertical}
-use Rattle.mt_session_spec.specs.World.{World, Held, ValidHeld, Holds, with_text, without_text}
+use Rattle.mt_session_spec.specs.World.{World, Held, ValidHeld, Holds, with_text, without_text, with_grammar}
 use Rattle.mt_session_spec.specs.Settings.{Setting, mapper_names}
 use Rattle.mt_session_spec.specs.Scenes.{Scene, scene_of}
 use Rattle.mt_session_spec.specs.Patterns.{IsAmong, IsDeep}
 use Rattle.mt_session_spec.specs.Asking.{Reads, ExceptsQuery, Deep, Refused as RefusedPattern}
 use Rattle.mt_session_spec.specs.Gains.{Gained, none_gained}
-use Rattle.mt_session_spec.specs.Refusals.{failure_line, no_memory_line, BadPattern}
+use Rattle.mt_session_spec.specs.Refusals.{failure_line, no_memory_line, refusal_line, pattern_refused_line, BadPattern}
 use Rattle.mt_session_spec.specs.Checks.{NoneStands}
 use Rattle.mt_session_spec.specs.Meaning.{Meaning, Question, LoadsNone, LoadsBehind, Exception, Starved, Blocked, ExceptsQuestion, QuestionStarved, QuestionExcepted, asking, unbuilt}
 use Rattle.mt_session_spec.specs.Registering.{registering, registry_front, with_registry}
 use Rattle.mt_session_spec.specs.Adding.{texting, adding, AddsText, text_checks, name_checks}
 use Rattle.mt_session_spec.specs.Generating.{generating}
 use Rattle.mt_session_spec.specs.Files.{IsFile}
+use Rattle.mt_session_spec.specs.Ruling.{SetsGrammar, ExceptsRules, Plainly, Deep as DeepRule, Unbuilt, ruling, ruling_by_file}
 use Rattle.mt_session_spec.specs.Listing.{listing}
 use Rattle.mt_session_spec.specs.Quitting.{quitting}
 use Rattle.mt_session_spec.specs.Removing.{removing}
-use Rattle.mt_session_spec.specs.Replies.{AsksDeep, AskHas, PatternsOfQuery}
+use Rattle.mt_session_spec.specs.Replies.{AsksDeep, AsksFor, AskHas, PatternsOfQuery, PatternsOfRules}
 use Rattle.mt_session_spec.specs.Meanings.{meaning, question}
 use Rattle.mt_session_spec.specs.Answers.{Answer, Refused, Lines, Last}
 use Rattle.mt_session_spec.specs.Steps.{IsSaid}
 use Rattle.mt_session_spec.specs.Laws.{told_failures}
 use Rattle.mt_session_laws.specs.Lawful.{KeepsValid, IsFair, TellsGained}
-use Rattle.mt_session_laws.proofs.Worlds.{text_valid, registry_valid, without_valid}
+use Rattle.mt_session_laws.proofs.Worlds.{text_valid, registry_valid, without_valid, grammar_valid}
 use Rattle.mt_session_laws.proofs.Said.{text_name, add_name, generate_name}
 use Rattle.mt_session_laws.proofs.Failures.{no_failure, no_want, no_refused, none_told, one_untold, one_told}
 
@@ -41,6 +44,7 @@ use Rattle.mt_session_laws.proofs.Failures.{no_failure, no_want, no_refused, non
 pub record Validities : Type 0 where
   pub texts : ValidTexts
   pub registries : ValidRegistries
+  pub grammars : ReadGrammarIsValid
 
 -- ## Exceptions of commands that store nothing
 
@@ -96,6 +100,24 @@ adding_keeps laws setting world name file valid named = record {
   excepted = plain_keeps world (LoadsBehind (name_checks world.held name) file) valid;
 }
 
+rules_same : (world : World) (Loads Given : List ℕ → Type 0) (gained : Gained) (new : World) (answer : Answer) → ExceptsRules world Loads Given gained new answer → new.held ≡ world.held
+rules_same world Loads Given gained new answer (Plainly a e) = exception_same world Loads gained new a e
+rules_same world Loads Given gained new answer (DeepRule grammar k gives deep) = refl
+rules_same world Loads Given gained new answer (Unbuilt grammar k gives refused) = refl
+
+rules_keep : (laws : Validities) (world : World) (Given : List ℕ → Type 0) → ValidHeld world.held → (new : World) (answer : Answer) → SetsGrammar world Given new answer → ValidHeld new.held
+rules_keep laws world Given valid new answer a =
+    same_valid (with_grammar world.held a.grammar) new.held (ap (λ (w : World). w.held) a.changed)
+    (grammar_valid world.held a.grammar valid (laws.grammars world.held.registry a.gives.bytes a.grammar valid.registry a.gives.read))
+
+-- a command that sets a grammar
+ruling_keeps : (laws : Validities) (world : World) (meant : Meaning) (Loads Given : List ℕ → Type 0) → meant.Accepts ≡ SetsGrammar world Given → meant.Excepts ≡ ExceptsRules world Loads Given → ValidHeld world.held →
+    KeepsValid meant
+ruling_keeps laws world meant Loads Given a e valid = record {
+  accepted = λ none new answer x. rules_keep laws world Given valid new answer (rw a at x);
+  excepted = λ gained new answer x. same_valid world.held new.held (rules_same world Loads Given gained new answer (rw e at x)) valid;
+}
+
 question_same : (asked : Question) (world : World) (gained : Gained) (new : World) (answer : Answer) → ExceptsQuestion asked world gained new answer → new ≡ world
 question_same asked world gained new answer QuestionStarved = refl
 question_same asked world gained new answer (QuestionExcepted line e) = refl
@@ -113,8 +135,8 @@ keeps_valid laws setting world (command.Add name file) valid said = adding_keeps
 keeps_valid laws setting world (command.Generate name seed tokens) valid said =
     texting_keeps laws setting world name (generated_vertical name seed tokens) valid (generate_name name seed tokens said)
 keeps_valid laws setting world (command.Asks ask) valid said = asking_keeps (question (scene_of setting world.held) ask) world valid
-keeps_valid laws setting world (command.Grammar file) valid said = unbuilt_keeps world valid
-keeps_valid laws setting world (command.Rules body) valid said = unbuilt_keeps world valid
+keeps_valid laws setting world (command.Grammar file) valid said = ruling_keeps laws world (ruling_by_file setting world file) (LoadsBehind [] file) (IsFile world.files file) refl refl valid
+keeps_valid laws setting world (command.Rules body) valid said = ruling_keeps laws world (ruling setting world body) LoadsNone (λ bytes. bytes ≡ body) refl refl valid
 keeps_valid laws setting world (command.Merge first last) valid said = unbuilt_keeps world valid
 keeps_valid laws setting world (command.Batch asked merge) valid said = unbuilt_keeps world valid
 keeps_valid laws setting world command.Segments valid said =
@@ -188,14 +210,29 @@ asking_fair setting world ask =
       starved = λ none. ask_starved asked world (question_starved setting world ask none);
     }
 
+rules_starved : (world : World) (Loads Given : List ℕ → Type 0) (item : script.Item) → ((texts : List (List ℕ)) → PatternsOfRules world.held.registry Given texts → AsksFor world item texts) → (AsksDeep world item → ⊥) →
+    (new : World) (answer : Answer) → ExceptsRules world Loads Given none_gained new answer → answer ≡ Refused no_memory_line
+rules_starved world Loads Given item has none new answer (Plainly a e) = exception_starved world Loads new a e
+rules_starved world Loads Given item has none new answer (DeepRule grammar k gives deep) =
+    absurd (none (record { texts = grammar_patterns grammar; asked = has (grammar_patterns grammar) (record { grammar = grammar; gives = gives; are = refl }); number = k; deep = deep }))
+rules_starved world Loads Given item has none new answer (Unbuilt grammar k gives refused) = absurd (none_among refused.text refused.among)
+
+ruling_fair : (world : World) (meant : Meaning) (Loads Given : List ℕ → Type 0) (item : script.Item) → meant.Accepts ≡ SetsGrammar world Given → meant.Excepts ≡ ExceptsRules world Loads Given →
+    ((texts : List (List ℕ)) → PatternsOfRules world.held.registry Given texts → AsksFor world item texts) → IsFair meant world (AsksDeep world item)
+ruling_fair world meant Loads Given item a e has = record {
+  accepted = λ new line x. let set : SetsGrammar world Given new (Refused line) = rw a at x in no_lines line _ set.says;
+  kept = λ gained new answer x. rules_same world Loads Given gained new answer (rw e at x);
+  starved = λ none new answer x. rules_starved world Loads Given item has none new answer (rw e at x);
+}
+
 pub is_fair : (setting : Setting) (world : World) (given : Command) → IsFair (meaning setting world given) world (AsksDeep world (script.Given given))
 is_fair setting world (command.Registry file) = plain_fair (registering setting world file) world (LoadsBehind (registry_front world) file) (AsksDeep world (script.Given (command.Registry file))) refl (λ new line a. no_lines line _ a.says)
 is_fair setting world (command.Text name body) = plain_fair (texting setting world name body) world LoadsNone (AsksDeep world (script.Given (command.Text name body))) refl (λ new line a. no_lines line _ a.says)
 is_fair setting world (command.Add name file) = plain_fair (adding setting world name file) world (LoadsBehind (name_checks world.held name) file) (AsksDeep world (script.Given (command.Add name file))) refl (λ new line a. no_lines line _ a.says)
 is_fair setting world (command.Generate name seed tokens) = plain_fair (generating setting world name seed tokens) world LoadsNone (AsksDeep world (script.Given (command.Generate name seed tokens))) refl (λ new line a. no_lines line _ a.says)
 is_fair setting world (command.Asks ask) = asking_fair setting world ask
-is_fair setting world (command.Grammar file) = unbuilt_fair world (AsksDeep world (script.Given (command.Grammar file)))
-is_fair setting world (command.Rules body) = unbuilt_fair world (AsksDeep world (script.Given (command.Rules body)))
+is_fair setting world (command.Grammar file) = ruling_fair world (ruling_by_file setting world file) (LoadsBehind [] file) (IsFile world.files file) (script.Given (command.Grammar file)) refl refl (λ texts has. has)
+is_fair setting world (command.Rules body) = ruling_fair world (ruling setting world body) LoadsNone (λ bytes. bytes ≡ body) (script.Given (command.Rules body)) refl refl (λ texts has. has)
 is_fair setting world (command.Merge first last) = unbuilt_fair world (AsksDeep world (script.Given (command.Merge first last)))
 is_fair setting world (command.Batch asked merge) = unbuilt_fair world (AsksDeep world (script.Given (command.Batch asked merge)))
 is_fair setting world command.Segments = plain_fair (listing world) world LoadsNone (AsksDeep world (script.Given command.Segments)) refl (λ new line a. no_lines line _ a.says)
@@ -237,14 +274,26 @@ ask_told scene ask world gained new answer file (QuestionExcepted line e) = let 
 asking_tells : (scene : Scene) (world : World) (ask : Ask) → TellsGained (asking (question scene ask) world)
 asking_tells scene world ask = record { accepted = λ new answer file a. none_told answer a.lines file a.says; excepted = ask_told scene ask world }
 
+rules_told : (world : World) (Loads Given : List ℕ → Type 0) (gained : Gained) (new : World) (answer : Answer) (file : List ℕ) → ExceptsRules world Loads Given gained new answer →
+    told_failures file (answer ∷ []) ≤ count_by (λ name. bytes_eq name file) gained.failed
+rules_told world Loads Given gained new answer file (Plainly a e) = exception_told world Loads gained new a file e
+rules_told world Loads Given gained new answer file (DeepRule grammar k gives deep) = let one = one_untold (refusal_line (BadPattern k)) file (no_failure (BadPattern k) file) in omega (arith, one)
+rules_told world Loads Given gained new answer file (Unbuilt grammar k gives refused) = let one = one_untold (pattern_refused_line k) file (no_refused k file) in omega (arith, one)
+
+ruling_tells : (world : World) (meant : Meaning) (Loads Given : List ℕ → Type 0) → meant.Accepts ≡ SetsGrammar world Given → meant.Excepts ≡ ExceptsRules world Loads Given → TellsGained meant
+ruling_tells world meant Loads Given a e = record {
+  accepted = λ new answer file x. let set : SetsGrammar world Given new answer = rw a at x in none_told answer _ file set.says;
+  excepted = λ gained new answer file x. rules_told world Loads Given gained new answer file (rw e at x);
+}
+
 pub tells_gained : (setting : Setting) (world : World) (given : Command) → TellsGained (meaning setting world given)
 tells_gained setting world (command.Registry file) = plain_tells (registering setting world file) world (LoadsBehind (registry_front world) file) refl (λ new answer other a. none_told answer _ other a.says)
 tells_gained setting world (command.Text name body) = plain_tells (texting setting world name body) world LoadsNone refl (λ new answer other a. none_told answer _ other a.says)
 tells_gained setting world (command.Add name file) = plain_tells (adding setting world name file) world (LoadsBehind (name_checks world.held name) file) refl (λ new answer other a. none_told answer _ other a.says)
 tells_gained setting world (command.Generate name seed tokens) = plain_tells (generating setting world name seed tokens) world LoadsNone refl (λ new answer other a. none_told answer _ other a.says)
 tells_gained setting world (command.Asks ask) = asking_tells (scene_of setting world.held) world ask
-tells_gained setting world (command.Grammar file) = unbuilt_tells world
-tells_gained setting world (command.Rules body) = unbuilt_tells world
+tells_gained setting world (command.Grammar file) = ruling_tells world (ruling_by_file setting world file) (LoadsBehind [] file) (IsFile world.files file) refl refl
+tells_gained setting world (command.Rules body) = ruling_tells world (ruling setting world body) LoadsNone (λ bytes. bytes ≡ body) refl refl
 tells_gained setting world (command.Merge first last) = unbuilt_tells world
 tells_gained setting world (command.Batch asked merge) = unbuilt_tells world
 tells_gained setting world command.Segments = plain_tells (listing world) world LoadsNone refl (λ new answer file a. none_told answer _ file a.says)

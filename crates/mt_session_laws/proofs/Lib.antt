@@ -6,9 +6,10 @@ pub mod Standard
 pub mod Worlds
 pub mod Said
 pub mod Failures
-pub mod Refusals
+pub mod Few
 pub mod Somes
 pub mod Ones
+pub mod Refusals
 pub mod Keeps
 pub mod Meanings
 pub mod Items

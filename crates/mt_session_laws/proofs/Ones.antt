@@ -7,12 +7,18 @@ use Rattle.std.proofs.lemmas.Bool.{cases_lt}
 use Rattle.std.proofs.lemmas.Option.{slice_get_within, get_or_from_slice_get}
 use Rattle.mt_text_spec.specs.Registries.{Registry, ValidRegistry, AreDistinct, attr_names}
 use Rattle.mt_text_spec.specs.Texts.{Text, Span}
-use Rattle.mt_text_spec.specs.Queries.{Query}
+use Rattle.mt_text_spec.specs.Queries.{Query, Grammar}
 use Rattle.mt_query_spec.specs.Verdicts as verdict
 use Rattle.mt_query_spec.specs.Contents.{patterns}
 use Rattle.mt_match_spec.specs.Kept.{Spans}
 use Rattle.mt_match_laws.specs.Laws.{SpansAreOne}
 use Rattle.mt_report_laws.specs.Laws.{FrequenciesAreOne, CollocatesAreOne}
+use Rattle.mt_grammar_spec.specs.ReadGrammar.{relation_count}
+use Rattle.mt_grammar_laws.specs.Laws as grammar
+use Rattle.mt_word_sketch_spec.specs.Sketches.{Sketch}
+use Rattle.mt_word_sketch_spec.specs.Thesaurus.{Thesaurus}
+use Rattle.mt_word_sketch_laws.specs.Laws.{OneSketch, OneThesaurus}
+use Rattle.mt_rule_spec.specs.Rules.{grammar_patterns}
 use Rattle.mt_report_spec.specs.Lines.{query_lines}
 use Rattle.mt_report_spec.specs.Counts.{FrequencyText, CollocationText}
 use Rattle.mt_shelf_spec.specs.Files.{Files}
@@ -21,20 +27,22 @@ use Rattle.mt_registry.specs.RegistryLaws as registry
 use Rattle.mt_script_spec.specs.Commands as command
 use Rattle.mt_script_spec.specs.Commands.{Ask, Command}
 use Rattle.mt_generate_spec.specs.Verticals.{generated_vertical}
-use Rattle.mt_session_spec.specs.World.{World, Held, ValidHeld, with_text, corpus_of}
+use Rattle.mt_session_spec.specs.World.{World, Held, ValidHeld, with_text, with_grammar, corpus_of}
 use Rattle.mt_session_spec.specs.Scenes.{Scene, scene_of}
 use Rattle.mt_session_spec.specs.Patterns.{IsWhole, IsFirstBad}
 use Rattle.mt_session_spec.specs.Settings.{Setting, mapper_names}
-use Rattle.mt_session_spec.specs.Refusals.{NameTaken, NoSuchFile, FileTooLong, RegistryLate, BadCommand, CorpusFull, BadVertical, BadRegistry, BadQuery, UnknownName, BadPattern, TooManyRows, NoSuchText}
+use Rattle.mt_session_spec.specs.Refusals.{NameTaken, NoSuchFile, FileTooLong, RegistryLate, BadCommand, CorpusFull, BadVertical, BadRegistry, BadQuery, UnknownName, BadPattern, TooManyRows, NoSuchText, NoGrammar, BadGrammar}
 use Rattle.mt_session_spec.specs.Checks.{IsSingle, AreSingle}
 use Rattle.mt_session_spec.specs.Files.{IsFile, file_checks}
-use Rattle.mt_session_spec.specs.Meaning.{asking, unbuilt, unbuilt_question, Question}
+use Rattle.mt_session_spec.specs.Meaning.{asking, unbuilt, Question}
 use Rattle.mt_session_spec.specs.Registering.{registering, with_registry, SetsRegistry, IsNoRegistry, BadLine as BadRegistryLine, Baseless}
 use Rattle.mt_session_spec.specs.Adding.{texting, adding, AddsText, IsNoText, BadLine, text_checks}
 use Rattle.mt_session_spec.specs.Asking.{Reads, IsNoQuery, Great, Faulty, Undeclared, HasBadPattern, Bad, HasTooManyRows, Many, query_checks, name_at}
 use Rattle.mt_session_spec.specs.Counting.{Counts, number_line}
 use Rattle.mt_session_spec.specs.Querying.{ListsSpans}
 use Rattle.mt_session_spec.specs.Reporting.{Reports, report_checks}
+use Rattle.mt_session_spec.specs.Ruling.{GivesGrammar, IsNoGrammar, BadLine as BadGrammarLine, Unrelated, HasBadRule, Bad as BadRule, SetsGrammar, rule_checks, ruling, ruling_by_file}
+use Rattle.mt_session_spec.specs.Sketching.{ByGrammar, sketching, finding_alike}
 use Rattle.mt_session_spec.specs.Removing.{removing, RemovesText}
 use Rattle.mt_session_spec.specs.Meanings.{meaning, question}
 use Rattle.mt_session_spec.specs.Answers.{Answer, Lines}
@@ -54,6 +62,11 @@ pub record Readings : Type 0 where
   pub one_spans : SpansAreOne
   pub one_frequencies : FrequenciesAreOne
   pub one_collocates : CollocatesAreOne
+  pub one_grammar : grammar.OneGrammar
+  pub one_grammar_fault : grammar.OneFault
+  pub grammars_apart : grammar.AreApart
+  pub one_sketch : OneSketch
+  pub one_thesaurus : OneThesaurus
 
 -- ## Files
 
@@ -92,7 +105,7 @@ registry_one laws setting world file = record {
 -- ## `text` and `add`
 
 -- the bytes are one
-abbrev AreOne : (List ℕ → Type 0) → Type 0
+abbrev pub AreOne : (List ℕ → Type 0) → Type 0
 AreOne Given = (a b : List ℕ) → Given a → Given b → a ≡ b
 
 one_no_text : (laws : Readings) (registry : Registry) (Given : List ℕ → Type 0) → ValidRegistry registry → AreOne Given → IsSingle (IsNoText registry Given)
@@ -236,8 +249,27 @@ record AsksOne (asked : Question) : Type 0 where
   pub checks : AreSingle asked.checks
   pub one : (lines others : List (List ℕ)) → asked.Answers lines → asked.Answers others → lines ≡ others
 
-unbuilt_asked : AsksOne unbuilt_question
-unbuilt_asked = record { checks = (single_when BadCommand, tt); one = λ lines others a b. absurd a }
+-- where the grammar that is held says one thing only, so does the question
+by_grammar_one : (scene : Scene) (Says : Grammar → List (List ℕ) → Type 0) → ((g : Grammar) (lines others : List (List ℕ)) → Says g lines → Says g others → lines ≡ others) → (lines others : List (List ℕ)) →
+    ByGrammar scene (λ g. Says g lines) → ByGrammar scene (λ g. Says g others) → lines ≡ others
+by_grammar_one scene Says one lines others s t =
+    let held : Some s.grammar ≡ Some t.grammar = sym s.held ∙ t.held in
+    let same : s.grammar ≡ t.grammar = cc in
+    one t.grammar lines others (subst (λ (g : Grammar). Says g lines) same s.says) t.says
+
+sketch_one : (laws : Readings) (scene : Scene) (least most : ℕ) (lemma : List ℕ) → AsksOne (sketching scene least most lemma)
+sketch_one laws scene least most lemma = record {
+  checks = (single_when NoGrammar, tt);
+  one = by_grammar_one scene (λ g lines. Sketch scene.images scene.registry g scene.corpus lemma least most lines)
+      (λ g lines others. laws.one_sketch scene.images scene.registry g scene.corpus lemma least most lines others);
+}
+
+alike_one : (laws : Readings) (scene : Scene) (most : ℕ) (lemma : List ℕ) → AsksOne (finding_alike scene most lemma)
+alike_one laws scene most lemma = record {
+  checks = (single_when NoGrammar, tt);
+  one = by_grammar_one scene (λ g lines. Thesaurus scene.images scene.registry g scene.corpus lemma most lines)
+      (λ g lines others. laws.one_thesaurus scene.images scene.registry g scene.corpus lemma most lines others);
+}
 
 question_one : (laws : Readings) (scene : Scene) (ask : Ask) → ValidRegistry scene.registry → AsksOne (question scene ask)
 question_one laws scene (command.Count cql) valid = record { checks = single_query laws scene cql; one = counts_one laws scene cql }
@@ -252,14 +284,58 @@ question_one laws scene (command.Colloc attr first last least cql) valid = recor
   one = reports_one laws scene attr cql (λ lines spans number. CollocationText scene.images scene.registry scene.corpus spans number first last least lines) valid
       (λ spans number. laws.one_collocates scene.images scene.registry scene.corpus spans number first last least);
 }
-question_one laws scene (command.Sketch least most lemma) valid = unbuilt_asked
-question_one laws scene (command.Thes most lemma) valid = unbuilt_asked
+question_one laws scene (command.Sketch least most lemma) valid = sketch_one laws scene least most lemma
+question_one laws scene (command.Thes most lemma) valid = alike_one laws scene most lemma
 
 ask_one : (asked : Question) (world : World) → AsksOne asked → HasOne (asking asked world)
 ask_one asked world a = record {
   checks = a.checks;
   one = λ new other answer another s t. (s.same ∙ sym t.same, s.says ∙ ap Lines (a.one s.lines t.lines s.answered t.answered) ∙ sym t.says);
 }
+
+-- ## `grammar` and `rules`
+
+pub same_grammar : grammar.OneGrammar → (registry : Registry) (Given : List ℕ → Type 0) → AreOne Given → (a b : Grammar) → GivesGrammar registry Given a → GivesGrammar registry Given b → a ≡ b
+same_grammar law registry Given one a b f g = law registry g.bytes a b (rw (one f.bytes g.bytes f.given g.given) at f.read) g.read
+
+one_no_grammar : (laws : Readings) (registry : Registry) (Given : List ℕ → Type 0) → AreOne Given → IsSingle (IsNoGrammar registry Given)
+one_no_grammar laws registry Given one a b (BadGrammarLine x line cause f h) (BadGrammarLine y number other g k) =
+    let same = laws.one_grammar_fault registry y line number cause other (rw (one x y f g) at h) k in
+    ap (λ n. BadGrammar n cause) same.0 ∙ ap (λ c. BadGrammar number c) same.1
+one_no_grammar laws registry Given one a b (BadGrammarLine x line cause f h) (Unrelated y g k) =
+    absurd (laws.grammars_apart.empty_or_faulty registry y line cause k (rw (one x y f g) at h))
+one_no_grammar laws registry Given one a b (Unrelated x f h) (BadGrammarLine y line cause g k) =
+    absurd (laws.grammars_apart.empty_or_faulty registry y line cause (rw (one x y f g) at h) k)
+one_no_grammar laws registry Given one a b (Unrelated x f h) (Unrelated y g k) = refl
+
+one_bad_rule : (laws : Readings) (registry : Registry) (Given : List ℕ → Type 0) → AreOne Given → IsSingle (HasBadRule registry Given)
+one_bad_rule laws registry Given one a b (BadRule rules k r f) (BadRule other n s g) =
+    let same = same_grammar laws.one_grammar registry Given one rules other r s in
+    ap BadPattern (first_bad_one (grammar_patterns other) k n (subst (λ (q : Grammar). IsFirstBad (grammar_patterns q) k) same f) g)
+
+single_rules : (laws : Readings) (setting : Setting) (world : World) (Given : List ℕ → Type 0) → AreOne Given → AreSingle (rule_checks setting world Given)
+single_rules laws setting world Given one = (one_no_grammar laws world.held.registry Given one, (one_bad_rule laws world.held.registry Given one, (single_when TooManyRows, tt)))
+
+rules_set_one : (laws : Readings) (world : World) (Given : List ℕ → Type 0) → AreOne Given → (new other : World) (answer another : Answer) → SetsGrammar world Given new answer → SetsGrammar world Given other another →
+    (new ≡ other) × (answer ≡ another)
+rules_set_one laws world Given one new other answer another s t =
+    let same = same_grammar laws.one_grammar world.held.registry Given one s.grammar t.grammar s.gives t.gives in (
+      s.changed ∙ ap (λ (g : Grammar). record world { held = with_grammar world.held g }) same ∙ sym t.changed,
+      s.says ∙ ap (λ (g : Grammar). Lines ((codes "ok " ++ decimal (relation_count g.relations)) ∷ [])) same ∙ sym t.says,
+    )
+
+rules_one : (laws : Readings) (setting : Setting) (world : World) (body : List ℕ) → HasOne (ruling setting world body)
+rules_one laws setting world body =
+    let one : AreOne (λ bytes. bytes ≡ body) = λ a b f g. f ∙ sym g in
+    record { checks = single_rules laws setting world (λ bytes. bytes ≡ body) one; one = rules_set_one laws world (λ bytes. bytes ≡ body) one }
+
+grammar_one : (laws : Readings) (setting : Setting) (world : World) (file : List ℕ) → HasOne (ruling_by_file setting world file)
+grammar_one laws setting world file =
+    let one : AreOne (IsFile world.files file) = same_bytes world.files file in
+    record {
+      checks = (single_when (NoSuchFile file), (single_when (FileTooLong file), single_rules laws setting world (IsFile world.files file) one));
+      one = rules_set_one laws world (IsFile world.files file) one;
+    }
 
 -- ## `remove`
 
@@ -283,8 +359,8 @@ has_one laws setting world (command.Text name body) valid = text_one laws settin
 has_one laws setting world (command.Add name file) valid = add_one laws setting world name file valid.registry
 has_one laws setting world (command.Generate name seed tokens) valid = text_one laws setting world name (generated_vertical name seed tokens) valid.registry
 has_one laws setting world (command.Asks ask) valid = ask_one (question (scene_of setting world.held) ask) world (question_one laws (scene_of setting world.held) ask valid.registry)
-has_one laws setting world (command.Grammar file) valid = unbuilt_one world
-has_one laws setting world (command.Rules body) valid = unbuilt_one world
+has_one laws setting world (command.Grammar file) valid = grammar_one laws setting world file
+has_one laws setting world (command.Rules body) valid = rules_one laws setting world body
 has_one laws setting world (command.Merge first last) valid = unbuilt_one world
 has_one laws setting world (command.Batch asked merge) valid = unbuilt_one world
 has_one laws setting world command.Segments valid = record { checks = tt; one = λ new other answer another s t. (s.same ∙ sym t.same, s.says ∙ sym t.says) }

@@ -1,22 +1,18 @@
 -- Lines that tell that the shop refused a pattern.
-use Rattle.std.proofs.Common.{◌≡◌, ℕ, zero, suc, ◌+◌, ◌^◌, ◌<◌, ◌≤◌, ◌⊎◌, inl, inr, Bool, true, false, cond, List, [], ◌∷◌, ◌++◌, length, Option, None, Some, Result, Ok, get_or, arith, refl, sym, ◌∙◌, ap, subst, codes}
-use Rattle.std.specs.Prelude.{slice_get, ◌||◌, nat_lt}
+use Rattle.std.proofs.Common.{◌≡◌, ℕ, zero, suc, ◌+◌, ◌^◌, ◌<◌, ◌≤◌, ◌⊎◌, inl, inr, Bool, true, false, cond, List, [], ◌∷◌, ◌++◌, length, Some, Result, Ok, get_or, arith, refl, sym, ◌∙◌, ap, subst, codes}
+use Rattle.std.specs.Prelude.{slice_get, ◌||◌}
 use Rattle.std.specs.List.{count_by}
 use Rattle.std.specs.Fmt.{decimal}
 use Rattle.std.specs.Str.{bytes_eq}
 use Rattle.std.proofs.lemmas.Fmt.{decimal_injective}
-use Rattle.std.proofs.lemmas.Grind.{common_steps}
 use Rattle.std.proofs.lemmas.List.{append_cancel_left}
 use Rattle.std.proofs.lemmas.List.Sums.{sum_by-append, sum_by-cons}
 use Rattle.std.proofs.lemmas.Option.{slice_get_within}
 use Rattle.std.proofs.lemmas.Slice.Eq.{bytes_eq-Decides}
-use Rattle.mt_text_spec.specs.Registries.{Registry}
 use Rattle.mt_text_spec.specs.Queries.{Query}
-use Rattle.mt_query_spec.specs.Meaning.{query_of}
-use Rattle.mt_query_spec.specs.Measures.{nodes, size}
 use Rattle.mt_query_spec.specs.Contents.{patterns}
 use Rattle.mt_query_spec.specs.Verdicts as verdict
-use Rattle.mt_query_spec.specs.Verdicts.{Cause, Means, too_long, unlexed, no_query, cut_short, written, judged, is_too_great}
+use Rattle.mt_rule_spec.specs.Rules.{grammar_patterns}
 use Rattle.mt_pattern_spec.specs.Patterns.{wrapped}
 use Rattle.mt_script_spec.specs.Commands as command
 use Rattle.mt_script_spec.specs.Commands.{Ask, Command}
@@ -26,16 +22,21 @@ use Rattle.mt_session_spec.specs.Settings.{Setting}
 use Rattle.mt_session_spec.specs.Scenes.{Scene, scene_of}
 use Rattle.mt_session_spec.specs.Gains.{Gained}
 use Rattle.mt_session_spec.specs.Refusals as refusal
-use Rattle.mt_session_spec.specs.Refusals.{Refusal, refusal_line, pattern_refused_line, no_memory_line}
+use Rattle.mt_session_spec.specs.Refusals.{Refusal, refusal_line, pattern_refused_line, failure_line, no_memory_line}
 use Rattle.mt_session_spec.specs.Answers.{Answer, Refused, Lines}
 use Rattle.mt_session_spec.specs.Patterns.{IsAmong, IsRefused}
 use Rattle.mt_session_spec.specs.Asking.{ExceptsQuery, Deep, Refused as RefusedPattern}
-use Rattle.mt_session_spec.specs.Meaning.{Question, Starved, Blocked, asking, unbuilt, QuestionStarved, QuestionExcepted}
+use Rattle.mt_session_spec.specs.Files.{IsFile}
+use Rattle.mt_session_spec.specs.Ruling.{SetsGrammar, ExceptsRules, Plainly, Deep as DeepRule, Unbuilt, ruling, ruling_by_file}
+use Rattle.mt_session_spec.specs.Meaning.{Meaning, Question, LoadsNone, LoadsBehind, Exception, Starved, Blocked, asking, QuestionStarved, QuestionExcepted}
 use Rattle.mt_session_spec.specs.Meanings.{question}
 use Rattle.mt_session_spec.specs.Steps.{StepBy, Meant, Excepted, Declined, Accepted}
-use Rattle.mt_session_spec.specs.Replies.{ItemStep, PatternsOfQuery, AskHas}
+use Rattle.mt_session_spec.specs.Replies.{ItemStep, PatternsOfQuery, PatternsOfRules, AskHas}
 use Rattle.mt_session_spec.specs.Laws.{TellsRefusal, NoneTells, OneTells, OneTellsNot, RefusalsAreGained}
 use Rattle.mt_session_laws.specs.Lawful.{PatternLaws}
+use Rattle.mt_session_laws.proofs.Failures.{no_refused as no_failure}
+use Rattle.mt_session_laws.proofs.Ones.{AreOne, same_bytes, same_grammar}
+use Rattle.mt_session_laws.proofs.Few.{few_patterns, few_rules}
 
 -- ## Which lines tell of one
 
@@ -74,32 +75,6 @@ not_starved k e = apart 50 51 (omega arith) (sym (ap third e))
 
 same_number : (a b : ℕ) → a < 2 ^ 64 → b < 2 ^ 64 → pattern_refused_line a ≡ pattern_refused_line b → a ≡ b
 same_number a b low high e = decimal_injective a b low high (append_cancel_left (codes "! 21 PatternRefused ") (decimal a) (decimal b) e)
-
--- ## Queries have few patterns
-
-judged_good : (fault : Option (ℕ × Cause)) (unknown : Option ℕ) (great : Bool) (query other : Query) → judged fault unknown great query ≡ Ok other → (query ≡ other) × (great ≡ false)
-judged_good (Some fault) unknown great query other e = let f : ⊥ = cc in absurd f
-judged_good None (Some at) great query other e = let f : ⊥ = cc in absurd f
-judged_good None None true query other e = let f : ⊥ = cc in absurd f
-judged_good None None false query other e = (cc, refl)
-
-not_great : (registry : Registry) (default : ℕ) (text : List ℕ) (said : Result Query verdict.Refusal) (query : Query) → said ≡ Ok query → Means registry default text said → is_too_great query ≡ false
-not_great registry default text said query e (too_long long) = let f : ⊥ = cc in absurd f
-not_great registry default text said query e (unlexed long at why stop begins) = let f : ⊥ = cc in absurd f
-not_great registry default text said query e (no_query long number at token there begins none) = let f : ⊥ = cc in absurd f
-not_great registry default text said query e (cut_short long stop begins none) = let f : ⊥ = cc in absurd f
-not_great registry default text said query e (written long stop tree tokens) =
-    let good = judged_good _ _ _ (query_of registry default tree) query e in
-    subst (λ (q : Query). is_too_great q ≡ false) good.0 good.1
-
-few_nodes : (a b : ℕ) → (nat_lt 256 a || nat_lt 4096 b) ≡ false → a ≤ 256
-few_nodes a b e = grind (arith, common_steps)
-
-few_patterns : PatternLaws → (registry : Registry) (default : ℕ) (text : List ℕ) (query : Query) → Means registry default text (Ok query) → length (patterns query) ≤ 256
-few_patterns laws registry default text query r =
-    let small : nodes query ≤ 256 = few_nodes (nodes query) (size query) (not_great registry default text (Ok query) query refl r) in
-    let few : length (patterns query) ≤ nodes query = laws.few query in
-    omega (arith, small, few)
 
 -- ## One item
 
@@ -193,19 +168,44 @@ question_told laws scene (command.Colloc attr first last least cql) gained patte
 question_told laws scene (command.Sketch least most lemma) gained pattern texts number asked there line e x = absurd asked
 question_told laws scene (command.Thes most lemma) gained pattern texts number asked there line e x = absurd asked
 
-no_refusal : (setting : Setting) (world : World) (gained : Gained) (k : ℕ) (new : World) (answer : Answer) → answer ≡ Refused (pattern_refused_line k) → StepBy (unbuilt world) world gained new answer → ⊥
-no_refusal setting world gained k new answer e (Meant n a (Declined given first)) = no_refused given k (same_line (refusal_line given) (pattern_refused_line k) e)
-no_refusal setting world gained k new answer e (Meant n a (Accepted m b none accepts)) = accepts
-no_refusal setting world gained k new answer e (Excepted n a Starved) = not_starved k (same_line no_memory_line (pattern_refused_line k) e)
-no_refusal setting world gained k new answer e (Excepted n a (Blocked file loads there)) = loads
+no_plain : (world : World) (Loads : List ℕ → Type 0) (gained : Gained) (k : ℕ) (new : World) (answer : Answer) → answer ≡ Refused (pattern_refused_line k) → Exception world Loads gained new answer → ⊥
+no_plain world Loads gained k new answer e Starved = not_starved k (same_line no_memory_line (pattern_refused_line k) e)
+no_plain world Loads gained k new answer e (Blocked file loads there) = no_failure k file (sym (same_line (failure_line file) (pattern_refused_line k) e))
+
+-- what may come in place of a grammar tells of a pattern that was refused
+rules_told : PatternLaws → (world : World) (Loads Found : List ℕ → Type 0) → AreOne Found → (gained : Gained) (new : World) (answer : Answer) (pattern : List ℕ) (texts : List (List ℕ)) (number : ℕ) →
+    PatternsOfRules world.held.registry Found texts → slice_get texts number ≡ Some pattern → answer ≡ Refused (pattern_refused_line (suc number)) → ExceptsRules world Loads Found gained new answer →
+    0 < refusals pattern gained.refused
+rules_told laws world Loads Found one gained new answer pattern texts number asked there e (Plainly a x) = absurd (no_plain world Loads gained (suc number) new a e x)
+rules_told laws world Loads Found one gained new answer pattern texts number asked there e (DeepRule grammar k gives deep) =
+    absurd (no_refused (refusal.BadPattern k) (suc number) (same_line (refusal_line (refusal.BadPattern k)) (pattern_refused_line (suc number)) e))
+rules_told laws world Loads Found one gained new answer pattern texts number asked there e (Unbuilt grammar k gives refused) =
+    let same = same_grammar laws.one_grammar world.held.registry Found one grammar asked.grammar gives asked.gives in
+    let all : texts ≡ grammar_patterns grammar = asked.are ∙ ap grammar_patterns (sym same) in
+    let few = few_rules laws world.held.registry gives.bytes grammar gives.read in
+    refused_told (grammar_patterns grammar) pattern gained.refused k number (omega (arith, few)) (subst (λ (t : List (List ℕ)). slice_get t number ≡ Some pattern) all there)
+    (same_line (pattern_refused_line k) (pattern_refused_line (suc number)) e) refused
+
+ruling_told : PatternLaws → (world : World) (meant : Meaning) (Loads Found : List ℕ → Type 0) → AreOne Found → meant.Accepts ≡ SetsGrammar world Found → meant.Excepts ≡ ExceptsRules world Loads Found →
+    (gained : Gained) (new : World) (answer : Answer) (pattern : List ℕ) (texts : List (List ℕ)) (number : ℕ) → PatternsOfRules world.held.registry Found texts → slice_get texts number ≡ Some pattern →
+    answer ≡ Refused (pattern_refused_line (suc number)) → StepBy meant world gained new answer → 0 < refusals pattern gained.refused
+ruling_told laws world meant Loads Found one accepts excepts gained new answer pattern texts number asked there e (Meant n a (Declined given first)) =
+    absurd (no_refused given (suc number) (same_line (refusal_line given) (pattern_refused_line (suc number)) e))
+ruling_told laws world meant Loads Found one accepts excepts gained new answer pattern texts number asked there e (Meant n a (Accepted m b none x)) =
+    let set : SetsGrammar world Found m b = rw accepts at x in absurd (no_lines (pattern_refused_line (suc number)) _ (sym set.says ∙ e))
+ruling_told laws world meant Loads Found one accepts excepts gained new answer pattern texts number asked there e (Excepted n a x) =
+    rules_told laws world Loads Found one gained n a pattern texts number asked there e (rw excepts at x)
 
 item_told : PatternLaws → (setting : Setting) (world : World) (item : Item) (gained : Gained) (new : World) (answer : Answer) (pattern : List ℕ) → TellsRefusal pattern world item answer → ItemStep setting world item gained new answer →
     0 < refusals pattern gained.refused
 item_told laws setting world (Given (command.Asks ask)) gained new answer pattern tells s =
     let scene = scene_of setting world.held in
     ask_told (question scene ask) world gained (suc tells.number) (0 < refusals pattern gained.refused) (question_told laws scene ask gained pattern tells.texts tells.number tells.asked tells.there) new answer tells.told s
-item_told laws setting world (Given (command.Rules body)) gained new answer pattern tells s = absurd (no_refusal setting world gained (suc tells.number) new answer tells.told s)
-item_told laws setting world (Given (command.Grammar file)) gained new answer pattern tells s = absurd (no_refusal setting world gained (suc tells.number) new answer tells.told s)
+item_told laws setting world (Given (command.Rules body)) gained new answer pattern tells s =
+    ruling_told laws world (ruling setting world body) LoadsNone (λ bytes. bytes ≡ body) (λ a b f g. f ∙ sym g) refl refl gained new answer pattern tells.texts tells.number tells.asked tells.there tells.told s
+item_told laws setting world (Given (command.Grammar file)) gained new answer pattern tells s =
+    ruling_told laws world (ruling_by_file setting world file) (LoadsBehind [] file) (IsFile world.files file) (same_bytes world.files file) refl refl gained new answer pattern tells.texts tells.number
+    tells.asked tells.there tells.told s
 item_told laws setting world item gained new answer pattern tells s = absurd tells.asked
 
 -- ## Many items

@@ -4,10 +4,12 @@ use Rattle.std.specs.Prelude.{slice_get}
 use Rattle.std.proofs.lemmas.Bool.{cases_lt}
 use Rattle.std.proofs.lemmas.Option.{slice_get-get_or}
 use Rattle.mt_text_spec.specs.Registries.{attr_names}
-use Rattle.mt_text_spec.specs.Queries.{Query}
+use Rattle.mt_text_spec.specs.Queries.{Query, Grammar}
 use Rattle.mt_query_spec.specs.Verdicts as verdict
 use Rattle.mt_match_laws.specs.Laws.{HaveSpans}
 use Rattle.mt_report_laws.specs.Laws.{HaveFrequencies, HaveCollocates}
+use Rattle.mt_grammar_laws.specs.Laws.{SomeAnswer}
+use Rattle.mt_word_sketch_laws.specs.Laws.{HaveSketches, HaveThesauri}
 use Rattle.mt_shelf_spec.specs.Files.{Files}
 use Rattle.mt_script_spec.specs.Commands as command
 use Rattle.mt_script_spec.specs.Commands.{Ask, Command}
@@ -17,13 +19,15 @@ use Rattle.mt_session_spec.specs.Settings.{Setting, mapper_names}
 use Rattle.mt_session_spec.specs.Scenes.{Scene, scene_of}
 use Rattle.mt_session_spec.specs.Checks.{NoneStands}
 use Rattle.mt_session_spec.specs.Files.{IsAbsent, IsTooLong, IsFile, file_bytes_limit}
-use Rattle.mt_session_spec.specs.Meaning.{asking, unbuilt, unbuilt_question, Question}
+use Rattle.mt_session_spec.specs.Meaning.{asking, unbuilt, Question}
 use Rattle.mt_session_spec.specs.Registering.{registering, BadLine as BadRegistryLine, Baseless}
 use Rattle.mt_session_spec.specs.Adding.{adding, AddsText, BadLine, text_checks}
 use Rattle.mt_session_spec.specs.Asking.{Reads, Great, Faulty, Undeclared, query_checks}
 use Rattle.mt_session_spec.specs.Counting.{Counts}
 use Rattle.mt_session_spec.specs.Querying.{ListsSpans}
 use Rattle.mt_session_spec.specs.Reporting.{IsDeclared, report_checks, listing_frequencies, listing_collocates}
+use Rattle.mt_session_spec.specs.Ruling.{BadLine as BadGrammarLine, Unrelated, SetsGrammar, rule_checks, ruling_by_file}
+use Rattle.mt_session_spec.specs.Sketching.{grammar_checks, sketching, finding_alike}
 use Rattle.mt_session_spec.specs.Removing.{removing}
 use Rattle.mt_session_spec.specs.Meanings.{meaning, question}
 use Rattle.mt_session_spec.specs.Answers.{Answer, Lines}
@@ -72,14 +76,28 @@ add_some setting world name file none k =
     let there = file_there world.files file (λ a. none.1.0 _ (record { is = refl; there = a })) (λ t. none.1.1.0 _ (record { is = refl; there = t })) in
     text_some setting world name there.0 (IsFile world.files file) there.1 none.1.1.1 k
 
+rules_some : SomeAnswer → (setting : Setting) (world : World) (bytes : List ℕ) (Given : List ℕ → Type 0) → Given bytes → NoneStands (rule_checks setting world Given) →
+    ((new : World) (answer : Answer) → SetsGrammar world Given new answer → ⊥) → ⊥
+rules_some some setting world bytes Given given none k =
+    some world.held.registry bytes (λ grammar read. k _ _ (record { grammar = grammar; gives = record { bytes = bytes; given = given; read = read }; changed = refl; says = refl }))
+    (λ lacks. none.0 _ (Unrelated bytes given lacks)) (λ number cause fault. none.0 _ (BadGrammarLine bytes number cause given fault))
+
+grammar_some : SomeAnswer → (setting : Setting) (world : World) (file : List ℕ) → HasSome (ruling_by_file setting world file)
+grammar_some some setting world file none k =
+    let there = file_there world.files file (λ a. none.0 _ (record { is = refl; there = a })) (λ t. none.1.0 _ (record { is = refl; there = t })) in
+    rules_some some setting world there.0 (IsFile world.files file) there.1 none.1.1 k
+
 -- ## Questions
 
--- what the laws of queries say
+-- what the laws of queries, of grammars and of sketches say
 pub record QueryReadings : Type 0 where
   pub some_query : SomeQuery
   pub have_spans : HaveSpans
   pub have_frequencies : HaveFrequencies
   pub have_collocates : HaveCollocates
+  pub some_grammar : SomeAnswer
+  pub have_sketches : HaveSketches
+  pub have_thesauri : HaveThesauri
 
 -- a text that no check of its reading refuses is a query
 asked_query : (laws : QueryReadings) (scene : Scene) (cql : List ℕ) → NoneStands (query_checks scene cql) → (query : Query) × Reads scene cql (Ok query)
@@ -130,16 +148,33 @@ collocates_some laws scene attr first last least cql none k = attr_some scene at
 ask_some : (asked : Question) (world : World) → (NoneStands asked.checks → ((lines : List (List ℕ)) → asked.Answers lines → ⊥) → ⊥) → HasSome (asking asked world)
 ask_some asked world some none k = some none (λ lines a. k world (Lines lines) (record { lines = lines; answered = a; same = refl; says = refl }))
 
-unbuilt_asked : NoneStands unbuilt_question.checks → ((lines : List (List ℕ)) → unbuilt_question.Answers lines → ⊥) → ⊥
-unbuilt_asked none k = none.0 _ (record { is = refl; there = tt })
+-- the grammar that is held, where no check refuses that there is none
+held_grammar : (scene : Scene) → NoneStands (grammar_checks scene) → (grammar : Grammar) × (scene.grammar ≡ Some grammar)
+held_grammar scene none = by scene.grammar refl
+  where
+    by : (o : Option Grammar) → scene.grammar ≡ o → (grammar : Grammar) × (scene.grammar ≡ Some grammar)
+    by None e = absurd (none.0 _ (record { is = refl; there = e }))
+    by (Some grammar) e = (grammar, e)
+
+sketch_some : (laws : QueryReadings) (scene : Scene) (least most : ℕ) (lemma : List ℕ) → NoneStands (grammar_checks scene) → ((lines : List (List ℕ)) → (sketching scene least most lemma).Answers lines → ⊥) → ⊥
+sketch_some laws scene least most lemma none k =
+    let held = held_grammar scene none in
+    let made = laws.have_sketches scene.images scene.registry held.0 scene.corpus lemma least most in
+    k made.0 (record { grammar = held.0; held = held.1; says = made.1 })
+
+alike_some : (laws : QueryReadings) (scene : Scene) (most : ℕ) (lemma : List ℕ) → NoneStands (grammar_checks scene) → ((lines : List (List ℕ)) → (finding_alike scene most lemma).Answers lines → ⊥) → ⊥
+alike_some laws scene most lemma none k =
+    let held = held_grammar scene none in
+    let made = laws.have_thesauri scene.images scene.registry held.0 scene.corpus lemma most in
+    k made.0 (record { grammar = held.0; held = held.1; says = made.1 })
 
 question_some : (laws : QueryReadings) (scene : Scene) (ask : Ask) → NoneStands (question scene ask).checks → ((lines : List (List ℕ)) → (question scene ask).Answers lines → ⊥) → ⊥
 question_some laws scene (command.Count cql) = count_some laws scene cql
 question_some laws scene (command.Query cql) = query_some laws scene cql
 question_some laws scene (command.Freq attr offset cql) = frequencies_some laws scene attr offset cql
 question_some laws scene (command.Colloc attr first last least cql) = collocates_some laws scene attr first last least cql
-question_some laws scene (command.Sketch least most lemma) = unbuilt_asked
-question_some laws scene (command.Thes most lemma) = unbuilt_asked
+question_some laws scene (command.Sketch least most lemma) = sketch_some laws scene least most lemma
+question_some laws scene (command.Thes most lemma) = alike_some laws scene most lemma
 
 -- ## All commands
 
@@ -159,8 +194,8 @@ has_some laws setting world (command.Add name file) = add_some setting world nam
 has_some laws setting world (command.Generate name seed tokens) = λ none k.
     text_some setting world name (generated_vertical name seed tokens) (λ bytes. bytes ≡ generated_vertical name seed tokens) refl none.1 k
 has_some laws setting world (command.Asks ask) = ask_some (question (scene_of setting world.held) ask) world (question_some laws (scene_of setting world.held) ask)
-has_some laws setting world (command.Grammar file) = unbuilt_some world
-has_some laws setting world (command.Rules body) = unbuilt_some world
+has_some laws setting world (command.Grammar file) = grammar_some laws.some_grammar setting world file
+has_some laws setting world (command.Rules body) = λ none k. rules_some laws.some_grammar setting world body (λ bytes. bytes ≡ body) refl none k
 has_some laws setting world (command.Merge first last) = unbuilt_some world
 has_some laws setting world (command.Batch asked merge) = unbuilt_some world
 has_some laws setting world command.Segments = λ none k. k world _ (record { same = refl; says = refl })

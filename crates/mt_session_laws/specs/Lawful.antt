@@ -6,6 +6,7 @@ use Rattle.mt_text_spec.specs.Queries.{Query}
 use Rattle.mt_query_spec.specs.Measures.{nodes}
 use Rattle.mt_query_spec.specs.Contents.{patterns}
 use Rattle.mt_query_spec.specs.Verdicts.{Means, Refusal}
+use Rattle.mt_grammar_laws.specs.Laws.{OneGrammar}
 use Rattle.mt_session_spec.specs.World.{World, ValidHeld}
 use Rattle.mt_session_spec.specs.Gains.{Gained, none_gained}
 use Rattle.mt_session_spec.specs.Refusals.{no_memory_line}
@@ -51,7 +52,8 @@ OneQuery = (registry : Registry) (default : ℕ) (text : List ℕ) (said other :
 abbrev pub SomeQuery : Type 0
 SomeQuery = (registry : Registry) (default : ℕ) (text : List ℕ) → (said : Result Query Refusal) × Means registry default text said
 
--- a text is one query only, and a query has no more patterns than it has nodes
+-- a text is one query only, a file one grammar only, and a query has no more patterns than it has nodes
 pub record PatternLaws : Type 0 where
   pub one_query : OneQuery
+  pub one_grammar : OneGrammar
   pub few : (query : Query) → length (patterns query) ≤ nodes query

@@ -16,11 +16,15 @@ ghost use Rattle.mt_session_spec.specs.Laws.{
   RefusalsAreGained,
 };
 
+use mt_grammar_laws::{
+    one_grammar, one_grammar_answer, one_grammar_fault, read_grammar_is_valid, some_grammar_answer,
+};
 use mt_match_laws::{have_spans, spans_are_one};
 use mt_query_laws::{contents_are_few, one_meaning as one_query, some_meaning as some_query};
 use mt_registry::{one_registry, one_registry_answer, one_registry_fault, valid_registries};
 use mt_report_laws::{collocates_are_one, frequencies_are_one, have_collocates, have_frequencies};
 use mt_vertical::{no_text_with_fault, one_fault, one_text, valid_texts};
+use mt_word_sketch_laws::{have_sketches, have_thesauri, one_sketch, one_thesaurus};
 
 /// No command that can be said is without a meaning in a valid world.
 pub fn some_meaning()
@@ -30,6 +34,9 @@ pub fn some_meaning()
     have_spans();
     have_frequencies();
     have_collocates();
+    some_grammar_answer();
+    have_sketches();
+    have_thesauri();
 }
 
 /// No command has two meanings.
@@ -46,6 +53,11 @@ pub fn one_meaning()
     spans_are_one();
     frequencies_are_one();
     collocates_are_one();
+    one_grammar();
+    one_grammar_fault();
+    one_grammar_answer();
+    one_sketch();
+    one_thesaurus();
 }
 
 /// A command leaves a valid world.
@@ -54,6 +66,7 @@ pub fn steps_keep_valid()
 {
     valid_texts();
     valid_registries();
+    read_grammar_is_valid();
 }
 
 /// A refused command changes nothing that is held.
@@ -109,5 +122,6 @@ pub fn refusals_are_gained()
     ensures { RefusalsAreGained }
 {
     one_query();
+    one_grammar();
     contents_are_few();
 }

@@ -13,4 +13,9 @@ returns c = one_meaning (record {
   one_spans = c.spans_are_one.ensures;
   one_frequencies = c.frequencies_are_one.ensures;
   one_collocates = c.collocates_are_one.ensures;
+  one_grammar = c.one_grammar.ensures;
+  one_grammar_fault = c.one_grammar_fault.ensures;
+  grammars_apart = c.one_grammar_answer.ensures;
+  one_sketch = c.one_sketch.ensures;
+  one_thesaurus = c.one_thesaurus.ensures;
 })

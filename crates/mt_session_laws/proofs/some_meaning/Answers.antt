@@ -7,4 +7,7 @@ returns c = some_meaning (record {
   have_spans = c.have_spans.ensures;
   have_frequencies = c.have_frequencies.ensures;
   have_collocates = c.have_collocates.ensures;
+  some_grammar = c.some_grammar_answer.ensures;
+  have_sketches = c.have_sketches.ensures;
+  have_thesauri = c.have_thesauri.ensures;
 })
