@@ -1,5 +1,5 @@
 -- What the replies to `count` and `query` mean.
-use Rattle.std.proofs.Common.{◌≡◌, ℕ, List, [], ◌∷◌, ◌++◌, get_or, Result, Ok, Err, refl, sym, subst, append-nil, codes, ◌∙◌}
+use Rattle.std.proofs.Common.{◌≡◌, ℕ, List, [], ◌∷◌, ◌++◌, get_or, Option, Result, Ok, Err, refl, sym, subst, append-nil, codes, ◌∙◌}
 use Rattle.std.specs.Prelude.{IfOk, OnErr}
 use Rattle.std.specs.List.{All, Contains}
 use Rattle.std.specs.Fmt.{decimal}
@@ -18,6 +18,7 @@ use Rattle.mt_corpus_spec.specs.Groups.{corpus_of}
 use Rattle.mt_corpus_spec.specs.Images.{Corpus, AreImagesBy}
 use Rattle.mt_report_spec.specs.Held.{LiesIn}
 use Rattle.mt_report_spec.specs.Lines.{query_lines}
+use Rattle.mt_counts.specs.Counted.{Counted}
 use Rattle.mt_script_spec.specs.Commands.{Ask, Count, Query}
 use Rattle.mt_session_spec.specs.Answers.{Refused, Lines as LinesAnswer}
 use Rattle.mt_session_spec.specs.Counting.{counting, number_line}
@@ -82,12 +83,12 @@ spans_lie corpus rows spans inside all = λ k d l.
 
 -- ## `count`
 
-pub counts : (corpus : Corpus) (cql : List ℕ) (rows : List Row) (count : ℕ) (line : List ℕ) (old : List (List ℕ)) → HasRows corpus cql rows → HasSpans rows count →
-    line ≡ closed (codes "=" ++ 32 ∷ decimal count) → AnswersAsk corpus (Count cql) old old (Lines line)
-counts corpus cql rows count line old has spans e = record {
+pub counts : (corpus : Corpus) (counted : Option Counted) (cql : List ℕ) (rows : List Row) (count : ℕ) (line : List ℕ) (old : List (List ℕ)) → HasRows corpus cql rows → HasSpans rows count →
+    line ≡ closed (codes "=" ++ 32 ∷ decimal count) → AnswersAsk corpus counted (Count cql) old old (Lines line)
+counts corpus counted cql rows count line old has spans e = record {
   refused = [];
   more = sym (append-nil old);
-  answers = λ images grammar agree. record {
+  answers = λ images grammar agree are. record {
     answer = LinesAnswer (number_line count ∷ []);
     says = SaysLines line (number_line count ∷ []) (e ∙ sym (append-nil _));
     holds = AskAnswered (number_line count ∷ []) (has.passes images grammar agree) (record {
@@ -102,12 +103,12 @@ counts corpus cql rows count line old has spans e = record {
 
 -- ## `query`
 
-pub lists : (corpus : Corpus) (cql : List ℕ) (rows : List Row) (bytes : List ℕ) (old : List (List ℕ)) → HasRows corpus cql rows →
-    ((images : Images) → AreImagesBy images corpus.taken → IsConcordance images corpus rows bytes) → AnswersAsk corpus (Query cql) old old (Lines bytes)
-lists corpus cql rows bytes old has concordance = record {
+pub lists : (corpus : Corpus) (counted : Option Counted) (cql : List ℕ) (rows : List Row) (bytes : List ℕ) (old : List (List ℕ)) → HasRows corpus cql rows →
+    ((images : Images) → AreImagesBy images corpus.taken → IsConcordance images corpus rows bytes) → AnswersAsk corpus counted (Query cql) old old (Lines bytes)
+lists corpus counted cql rows bytes old has concordance = record {
   refused = [];
   more = sym (append-nil old);
-  answers = λ images grammar agree.
+  answers = λ images grammar agree are.
       let told = concordance images agree in
       let lines = query_lines images corpus.registry (corpus_of corpus.groups) told.spans in
       record {
@@ -126,38 +127,38 @@ lists corpus cql rows bytes old has concordance = record {
 -- ## Either of two
 
 -- of a result, a reply is its value's lines, or tells that memory ran out
-told : {E : Type 0} (corpus : Corpus) (asked : Ask) (old : List (List ℕ)) (made : Result (List ℕ) E) (reply : Reply) → IfOk made (λ bytes. AnswersAsk corpus asked old old (Lines bytes)) →
-    AnswersAsk corpus asked old old NoMemory → IfOk made (λ bytes. reply ≡ Lines bytes) → OnErr made (reply ≡ NoMemory) → AnswersAsk corpus asked old old reply
-told corpus asked old (Ok bytes) reply answers starves is none = rw is answers
-told corpus asked old (Err e) reply answers starves is none = rw none starves
+told : {E : Type 0} (corpus : Corpus) (counted : Option Counted) (asked : Ask) (old : List (List ℕ)) (made : Result (List ℕ) E) (reply : Reply) → IfOk made (λ bytes. AnswersAsk corpus counted asked old old (Lines bytes)) →
+    AnswersAsk corpus counted asked old old NoMemory → IfOk made (λ bytes. reply ≡ Lines bytes) → OnErr made (reply ≡ NoMemory) → AnswersAsk corpus counted asked old old reply
+told corpus counted asked old (Ok bytes) reply answers starves is none = rw is answers
+told corpus counted asked old (Err e) reply answers starves is none = rw none starves
 
 -- ## No answer
 
-pub count_declines : (corpus : Corpus) (cql : List ℕ) (old new : List (List ℕ)) (declined : Declined) (reply : Reply) → DeclinesQuery corpus cql old new declined →
-    Given (Refused (declined_line declined)) reply → AnswersAsk corpus (Count cql) old new reply
-count_declines corpus cql old new declined reply declines g = record {
+pub count_declines : (corpus : Corpus) (counted : Option Counted) (cql : List ℕ) (old new : List (List ℕ)) (declined : Declined) (reply : Reply) → DeclinesQuery corpus cql old new declined →
+    Given (Refused (declined_line declined)) reply → AnswersAsk corpus counted (Count cql) old new reply
+count_declines corpus counted cql old new declined reply declines g = record {
   refused = declines.refused;
   more = declines.more;
-  answers = λ images grammar agree.
+  answers = λ images grammar agree are.
       let scene = seen images corpus grammar in
       tells (counting scene cql) (gained_of declines.refused) declined reply (declines.stands images grammar agree) g;
 }
 
-pub query_declines : (corpus : Corpus) (cql : List ℕ) (old new : List (List ℕ)) (declined : Declined) (reply : Reply) → DeclinesQuery corpus cql old new declined →
-    Given (Refused (declined_line declined)) reply → AnswersAsk corpus (Query cql) old new reply
-query_declines corpus cql old new declined reply declines g = record {
+pub query_declines : (corpus : Corpus) (counted : Option Counted) (cql : List ℕ) (old new : List (List ℕ)) (declined : Declined) (reply : Reply) → DeclinesQuery corpus cql old new declined →
+    Given (Refused (declined_line declined)) reply → AnswersAsk corpus counted (Query cql) old new reply
+query_declines corpus counted cql old new declined reply declines g = record {
   refused = declines.refused;
   more = declines.more;
-  answers = λ images grammar agree.
+  answers = λ images grammar agree are.
       let scene = seen images corpus grammar in
       tells (querying scene cql) (gained_of declines.refused) declined reply (declines.stands images grammar agree) g;
 }
 
-pub count_starves : (corpus : Corpus) (cql : List ℕ) (old : List (List ℕ)) → AnswersAsk corpus (Count cql) old old NoMemory
-count_starves corpus cql old = unasked corpus (Count cql) old NoMemory (λ images grammar. starved (counting (seen images corpus grammar) cql) (gained_of []))
+pub count_starves : (corpus : Corpus) (counted : Option Counted) (cql : List ℕ) (old : List (List ℕ)) → AnswersAsk corpus counted (Count cql) old old NoMemory
+count_starves corpus counted cql old = unasked corpus counted (Count cql) old NoMemory (λ images grammar. starved (counting (seen images corpus grammar) cql) (gained_of []))
 
-pub query_starves : (corpus : Corpus) (cql : List ℕ) (old : List (List ℕ)) → AnswersAsk corpus (Query cql) old old NoMemory
-query_starves corpus cql old = unasked corpus (Query cql) old NoMemory (λ images grammar. starved (querying (seen images corpus grammar) cql) (gained_of []))
+pub query_starves : (corpus : Corpus) (counted : Option Counted) (cql : List ℕ) (old : List (List ℕ)) → AnswersAsk corpus counted (Query cql) old old NoMemory
+query_starves corpus counted cql old = unasked corpus counted (Query cql) old NoMemory (λ images grammar. starved (querying (seen images corpus grammar) cql) (gained_of []))
 
 -- ## The replies
 
@@ -165,15 +166,15 @@ if_ok : {X E : Type 0} (P Q : X → Type 0) → ((x : X) → P x → Q x) → (m
 if_ok P Q to (Ok x) p = to x p
 if_ok P Q to (Err e) p = tt
 
-pub count_told : {E : Type 0} (corpus : Corpus) (cql : List ℕ) (rows : List Row) (count : ℕ) (old new : List (List ℕ)) (made : Result (List ℕ) E) (reply : Reply) → new ≡ old → HasRows corpus cql rows →
+pub count_told : {E : Type 0} (corpus : Corpus) (counted : Option Counted) (cql : List ℕ) (rows : List Row) (count : ℕ) (old new : List (List ℕ)) (made : Result (List ℕ) E) (reply : Reply) → new ≡ old → HasRows corpus cql rows →
     HasSpans rows count → IfOk made (λ line. line ≡ closed (codes "=" ++ 32 ∷ decimal count)) → IfOk made (λ bytes. reply ≡ Lines bytes) → OnErr made (reply ≡ NoMemory) →
-    AnswersAsk corpus (Count cql) old new reply
-count_told corpus cql rows count old new made reply kept has spans line is none = rw kept (told corpus (Count cql) old made reply
-    (if_ok (λ bytes. bytes ≡ closed (codes "=" ++ 32 ∷ decimal count)) (λ bytes. AnswersAsk corpus (Count cql) old old (Lines bytes)) (λ bytes e. counts corpus cql rows count bytes old has spans e) made line)
-    (count_starves corpus cql old) is none)
+    AnswersAsk corpus counted (Count cql) old new reply
+count_told corpus counted cql rows count old new made reply kept has spans line is none = rw kept (told corpus counted (Count cql) old made reply
+    (if_ok (λ bytes. bytes ≡ closed (codes "=" ++ 32 ∷ decimal count)) (λ bytes. AnswersAsk corpus counted (Count cql) old old (Lines bytes)) (λ bytes e. counts corpus counted cql rows count bytes old has spans e) made line)
+    (count_starves corpus counted cql old) is none)
 
-pub query_told : {E : Type 0} (corpus : Corpus) (cql : List ℕ) (rows : List Row) (old new : List (List ℕ)) (made : Result (List ℕ) E) (reply : Reply) → new ≡ old → HasRows corpus cql rows →
+pub query_told : {E : Type 0} (corpus : Corpus) (counted : Option Counted) (cql : List ℕ) (rows : List Row) (old new : List (List ℕ)) (made : Result (List ℕ) E) (reply : Reply) → new ≡ old → HasRows corpus cql rows →
     ((images : Images) → AreImagesBy images corpus.taken → IfOk made (IsConcordance images corpus rows)) → IfOk made (λ bytes. reply ≡ Lines bytes) → OnErr made (reply ≡ NoMemory) →
-    AnswersAsk corpus (Query cql) old new reply
-query_told corpus cql rows old new (Ok bytes) reply kept has concordance is none = rw (kept, is) (lists corpus cql rows bytes old has concordance)
-query_told corpus cql rows old new (Err e) reply kept has concordance is none = rw (kept, none) (query_starves corpus cql old)
+    AnswersAsk corpus counted (Query cql) old new reply
+query_told corpus counted cql rows old new (Ok bytes) reply kept has concordance is none = rw (kept, is) (lists corpus counted cql rows bytes old has concordance)
+query_told corpus counted cql rows old new (Err e) reply kept has concordance is none = rw (kept, none) (query_starves corpus counted cql old)

@@ -1,19 +1,17 @@
 -- What the replies to questions mean.
-use Rattle.std.proofs.Common.{◌≡◌, ℕ, ℤ, ◌⊎◌, inl, inr, List, [], Option, refl, sym, append-nil}
+use Rattle.std.proofs.Common.{◌≡◌, ℕ, ◌⊎◌, inl, inr, List, [], Option, refl, sym, append-nil}
 use Rattle.mt_text_spec.specs.Queries.{Grammar}
 use Rattle.mt_text_spec.specs.Lines.{closed}
 use Rattle.mt_match_spec.specs.Values.{Images}
 use Rattle.mt_corpus_spec.specs.Images.{Corpus}
+use Rattle.mt_counts.specs.Counted.{Counted}
 use Rattle.mt_script_spec.specs.Commands.{Ask}
 use Rattle.mt_session_spec.specs.Gains.{Gained}
-use Rattle.mt_session_spec.specs.Refusals.{Refusal, BadCommand, refusal_line, no_memory_line}
+use Rattle.mt_session_spec.specs.Refusals.{Refusal, refusal_line, no_memory_line}
 use Rattle.mt_session_spec.specs.Checks.{FirstStands}
 use Rattle.mt_session_spec.specs.Answers.{Answer, Refused}
-use Rattle.mt_session_spec.specs.Meaning.{Question, unbuilt_question}
+use Rattle.mt_session_spec.specs.Meaning.{Question}
 use Rattle.mt_session_spec.specs.Steps.{AskStep, AskStepBy, AskDeclined, AskStarved}
-use Rattle.mt_script.specs.Seen.{ask_of}
-use Rattle.mt_script.specs.declared.command.Ask.{Ask as RustAsk}
-use Rattle.mt_script.specs.declared.command.Ask.TheVariants as ask
 use Rattle.mt_answer.specs.declared.reply.Reply.{Reply}
 use Rattle.mt_answer.specs.declared.reply.Reply.TheVariants.{Refused as RefusedReply, NoMemory}
 use Rattle.mt_answer.specs.Replies.{SaysOf, SaysRefused, SaysNoMemory, Given, AnswersAsk, seen, gained_of}
@@ -36,22 +34,9 @@ starved asked gained = record { answer = Refused no_memory_line; says = SaysNoMe
 -- ## Where no shop was asked
 
 -- a reply that answers where the shop refused nothing
-pub unasked : (corpus : Corpus) (asked : Ask) (old : List (List ℕ)) (reply : Reply) →
-    ((images : Images) (grammar : Option Grammar) → SaysOf (λ answer. AskStep (seen images corpus grammar) asked (gained_of []) answer) reply) → AnswersAsk corpus asked old old reply
-unasked corpus asked old reply answers = record { refused = []; more = sym (append-nil old); answers = λ images grammar agree. answers images grammar }
-
-unbuilt : (reply : Reply) → Given (Refused (refusal_line BadCommand)) reply → Asked unbuilt_question (gained_of []) reply
-unbuilt reply g = declined unbuilt_question (gained_of []) BadCommand reply (inl (record { is = refl; there = tt })) g
-
-pub unbuilt_ask : (corpus : Corpus) (old : List (List ℕ)) (given : RustAsk) (reply : Reply) → ((cql : List ℕ) → given ≡ ask.Count cql → ⊥) → ((cql : List ℕ) → given ≡ ask.Query cql → ⊥) →
-    ((attr : List ℕ) (offset : ℤ) (cql : List ℕ) → given ≡ ask.Freq attr offset cql → ⊥) → ((attr : List ℕ) (first last : ℤ) (least : ℕ) (cql : List ℕ) → given ≡ ask.Colloc attr first last least cql → ⊥) →
-    Given (Refused (refusal_line BadCommand)) reply → AnswersAsk corpus (ask_of given) old old reply
-unbuilt_ask corpus old (ask.Count cql) reply no_count no_query no_freq no_colloc g = absurd (no_count cql refl)
-unbuilt_ask corpus old (ask.Query cql) reply no_count no_query no_freq no_colloc g = absurd (no_query cql refl)
-unbuilt_ask corpus old (ask.Freq attr offset cql) reply no_count no_query no_freq no_colloc g = absurd (no_freq attr offset cql refl)
-unbuilt_ask corpus old (ask.Colloc attr first last least cql) reply no_count no_query no_freq no_colloc g = absurd (no_colloc attr first last least cql refl)
-unbuilt_ask corpus old (ask.Sketch least most lemma) reply no_count no_query no_freq no_colloc g = unasked corpus (ask_of (ask.Sketch least most lemma)) old reply (λ images grammar. unbuilt reply g)
-unbuilt_ask corpus old (ask.Thes most lemma) reply no_count no_query no_freq no_colloc g = unasked corpus (ask_of (ask.Thes most lemma)) old reply (λ images grammar. unbuilt reply g)
+pub unasked : (corpus : Corpus) (counted : Option Counted) (asked : Ask) (old : List (List ℕ)) (reply : Reply) →
+    ((images : Images) (grammar : Option Grammar) → SaysOf (λ answer. AskStep (seen images corpus grammar) asked (gained_of []) answer) reply) → AnswersAsk corpus counted asked old old reply
+unasked corpus counted asked old reply answers = record { refused = []; more = sym (append-nil old); answers = λ images grammar agree are. answers images grammar }
 
 -- ## Refusals
 

@@ -10,3 +10,5 @@ pub mod Fitting
 pub mod Few
 pub mod Reports
 pub mod Unruled
+pub mod ByGrammar
+pub mod Blames

@@ -1,5 +1,5 @@
 -- What the replies to `freq` and `colloc` mean.
-use Rattle.std.proofs.Common.{◌≡◌, ℕ, ℤ, ◌<◌, List, [], ◌∷◌, ◌++◌, length, get_or, true, Result, Ok, Err, inl, inr, Some, None, refl, sym, ◌∙◌, ap, subst, append-nil, arith}
+use Rattle.std.proofs.Common.{◌≡◌, ℕ, ℤ, ◌<◌, List, [], ◌∷◌, ◌++◌, length, get_or, true, Result, Ok, Err, inl, inr, Option, Some, None, refl, sym, ◌∙◌, ap, subst, append-nil, arith}
 use Rattle.std.specs.Prelude.{IfOk, OnErr, slice_get}
 use Rattle.std.specs.List.{All, Contains, flat_map}
 use Rattle.std.proofs.lemmas.List.Elements.{All-contains_itself, All-weaker}
@@ -21,6 +21,7 @@ use Rattle.mt_corpus_spec.specs.Images.{Corpus, AreImagesBy}
 use Rattle.mt_report_spec.specs.Held.{LiesIn}
 use Rattle.mt_report_spec.specs.Counts.{FrequencyText, CollocationText, Collocate, IsCollocate, collocate_cmp, spans_with}
 use Rattle.mt_report_spec.specs.Near.{window}
+use Rattle.mt_counts.specs.Counted.{Counted}
 use Rattle.mt_script_spec.specs.Commands.{Freq, Colloc}
 use Rattle.mt_session_spec.specs.Scenes.{Scene}
 use Rattle.mt_session_spec.specs.Refusals.{UnknownName, TooManyRows}
@@ -176,12 +177,12 @@ collocates_listed images corpus spans told number first given_first last end giv
   bytes_are = appended ∙ ap (λ (front : List ℕ). front ++ flat_map closed lines) none;
 }
 
-freq_lists : (corpus : Corpus) (attr cql : List ℕ) (offset : ℤ) (number : ℕ) (spans : List Span) (bytes : List ℕ) (old : List (List ℕ)) → HasReport corpus attr cql number spans →
-    ((images : Images) → AreImagesBy images corpus.taken → IsFrequencyList images corpus spans number offset bytes) → AnswersAsk corpus (Freq attr offset cql) old old (Lines bytes)
-freq_lists corpus attr cql offset number spans bytes old has list = record {
+freq_lists : (corpus : Corpus) (counted : Option Counted) (attr cql : List ℕ) (offset : ℤ) (number : ℕ) (spans : List Span) (bytes : List ℕ) (old : List (List ℕ)) → HasReport corpus attr cql number spans →
+    ((images : Images) → AreImagesBy images corpus.taken → IsFrequencyList images corpus spans number offset bytes) → AnswersAsk corpus counted (Freq attr offset cql) old old (Lines bytes)
+freq_lists corpus counted attr cql offset number spans bytes old has list = record {
   refused = [];
   more = sym (append-nil old);
-  answers = λ images grammar agree.
+  answers = λ images grammar agree are.
       let told = list images agree in
       record {
         answer = LinesAnswer told.lines;
@@ -198,12 +199,12 @@ freq_lists corpus attr cql offset number spans bytes old has list = record {
       };
 }
 
-colloc_lists : (corpus : Corpus) (attr cql : List ℕ) (first last : ℤ) (least number : ℕ) (spans : List Span) (bytes : List ℕ) (old : List (List ℕ)) → HasReport corpus attr cql number spans →
-    ((images : Images) → AreImagesBy images corpus.taken → IsCollocationList images corpus spans number first last least bytes) → AnswersAsk corpus (Colloc attr first last least cql) old old (Lines bytes)
-colloc_lists corpus attr cql first last least number spans bytes old has list = record {
+colloc_lists : (corpus : Corpus) (counted : Option Counted) (attr cql : List ℕ) (first last : ℤ) (least number : ℕ) (spans : List Span) (bytes : List ℕ) (old : List (List ℕ)) → HasReport corpus attr cql number spans →
+    ((images : Images) → AreImagesBy images corpus.taken → IsCollocationList images corpus spans number first last least bytes) → AnswersAsk corpus counted (Colloc attr first last least cql) old old (Lines bytes)
+colloc_lists corpus counted attr cql first last least number spans bytes old has list = record {
   refused = [];
   more = sym (append-nil old);
-  answers = λ images grammar agree.
+  answers = λ images grammar agree are.
       let told = list images agree in
       record {
         answer = LinesAnswer told.lines;
@@ -222,42 +223,42 @@ colloc_lists corpus attr cql first last least number spans bytes old has list = 
 
 -- ## No answer
 
-pub freq_declines : (corpus : Corpus) (attr cql : List ℕ) (offset : ℤ) (old new : List (List ℕ)) (declined : Declined) (reply : Reply) → DeclinesReport corpus attr cql old new declined →
-    Given (Refused (declined_line declined)) reply → AnswersAsk corpus (Freq attr offset cql) old new reply
-freq_declines corpus attr cql offset old new why reply declines g = record {
+pub freq_declines : (corpus : Corpus) (counted : Option Counted) (attr cql : List ℕ) (offset : ℤ) (old new : List (List ℕ)) (declined : Declined) (reply : Reply) → DeclinesReport corpus attr cql old new declined →
+    Given (Refused (declined_line declined)) reply → AnswersAsk corpus counted (Freq attr offset cql) old new reply
+freq_declines corpus counted attr cql offset old new why reply declines g = record {
   refused = declines.refused;
   more = declines.more;
-  answers = λ images grammar agree. tells (listing_frequencies (seen images corpus grammar) attr offset cql) (gained_of declines.refused) why reply (declines.stands images grammar agree) g;
+  answers = λ images grammar agree are. tells (listing_frequencies (seen images corpus grammar) attr offset cql) (gained_of declines.refused) why reply (declines.stands images grammar agree) g;
 }
 
-pub colloc_declines : (corpus : Corpus) (attr cql : List ℕ) (first last : ℤ) (least : ℕ) (old new : List (List ℕ)) (declined : Declined) (reply : Reply) →
-    DeclinesReport corpus attr cql old new declined → Given (Refused (declined_line declined)) reply → AnswersAsk corpus (Colloc attr first last least cql) old new reply
-colloc_declines corpus attr cql first last least old new why reply declines g = record {
+pub colloc_declines : (corpus : Corpus) (counted : Option Counted) (attr cql : List ℕ) (first last : ℤ) (least : ℕ) (old new : List (List ℕ)) (declined : Declined) (reply : Reply) →
+    DeclinesReport corpus attr cql old new declined → Given (Refused (declined_line declined)) reply → AnswersAsk corpus counted (Colloc attr first last least cql) old new reply
+colloc_declines corpus counted attr cql first last least old new why reply declines g = record {
   refused = declines.refused;
   more = declines.more;
-  answers = λ images grammar agree.
+  answers = λ images grammar agree are.
       tells (listing_collocates (seen images corpus grammar) attr first last least cql) (gained_of declines.refused) why reply (declines.stands images grammar agree) g;
 }
 
-freq_starves : (corpus : Corpus) (attr cql : List ℕ) (offset : ℤ) (old : List (List ℕ)) → AnswersAsk corpus (Freq attr offset cql) old old NoMemory
-freq_starves corpus attr cql offset old =
-    unasked corpus (Freq attr offset cql) old NoMemory (λ images grammar. starved (listing_frequencies (seen images corpus grammar) attr offset cql) (gained_of []))
+freq_starves : (corpus : Corpus) (counted : Option Counted) (attr cql : List ℕ) (offset : ℤ) (old : List (List ℕ)) → AnswersAsk corpus counted (Freq attr offset cql) old old NoMemory
+freq_starves corpus counted attr cql offset old =
+    unasked corpus counted (Freq attr offset cql) old NoMemory (λ images grammar. starved (listing_frequencies (seen images corpus grammar) attr offset cql) (gained_of []))
 
-colloc_starves : (corpus : Corpus) (attr cql : List ℕ) (first last : ℤ) (least : ℕ) (old : List (List ℕ)) → AnswersAsk corpus (Colloc attr first last least cql) old old NoMemory
-colloc_starves corpus attr cql first last least old =
-    unasked corpus (Colloc attr first last least cql) old NoMemory (λ images grammar. starved (listing_collocates (seen images corpus grammar) attr first last least cql) (gained_of []))
+colloc_starves : (corpus : Corpus) (counted : Option Counted) (attr cql : List ℕ) (first last : ℤ) (least : ℕ) (old : List (List ℕ)) → AnswersAsk corpus counted (Colloc attr first last least cql) old old NoMemory
+colloc_starves corpus counted attr cql first last least old =
+    unasked corpus counted (Colloc attr first last least cql) old NoMemory (λ images grammar. starved (listing_collocates (seen images corpus grammar) attr first last least cql) (gained_of []))
 
 -- ## The replies
 
-pub freq_told : {E : Type 0} (corpus : Corpus) (attr cql : List ℕ) (offset : ℤ) (number : ℕ) (spans : List Span) (old new : List (List ℕ)) (made : Result (List ℕ) E) (reply : Reply) → new ≡ old →
+pub freq_told : {E : Type 0} (corpus : Corpus) (counted : Option Counted) (attr cql : List ℕ) (offset : ℤ) (number : ℕ) (spans : List Span) (old new : List (List ℕ)) (made : Result (List ℕ) E) (reply : Reply) → new ≡ old →
     HasReport corpus attr cql number spans → ((images : Images) → AreImagesBy images corpus.taken → IfOk made (IsFrequencyList images corpus spans number offset)) →
-    IfOk made (λ bytes. reply ≡ Lines bytes) → OnErr made (reply ≡ NoMemory) → AnswersAsk corpus (Freq attr offset cql) old new reply
-freq_told corpus attr cql offset number spans old new (Ok bytes) reply kept has list is none = rw (kept, is) (freq_lists corpus attr cql offset number spans bytes old has list)
-freq_told corpus attr cql offset number spans old new (Err e) reply kept has list is none = rw (kept, none) (freq_starves corpus attr cql offset old)
+    IfOk made (λ bytes. reply ≡ Lines bytes) → OnErr made (reply ≡ NoMemory) → AnswersAsk corpus counted (Freq attr offset cql) old new reply
+freq_told corpus counted attr cql offset number spans old new (Ok bytes) reply kept has list is none = rw (kept, is) (freq_lists corpus counted attr cql offset number spans bytes old has list)
+freq_told corpus counted attr cql offset number spans old new (Err e) reply kept has list is none = rw (kept, none) (freq_starves corpus counted attr cql offset old)
 
-pub colloc_told : {E : Type 0} (corpus : Corpus) (attr cql : List ℕ) (first last : ℤ) (least number : ℕ) (spans : List Span) (old new : List (List ℕ)) (made : Result (List ℕ) E) (reply : Reply) → new ≡ old →
+pub colloc_told : {E : Type 0} (corpus : Corpus) (counted : Option Counted) (attr cql : List ℕ) (first last : ℤ) (least number : ℕ) (spans : List Span) (old new : List (List ℕ)) (made : Result (List ℕ) E) (reply : Reply) → new ≡ old →
     HasReport corpus attr cql number spans → ((images : Images) → AreImagesBy images corpus.taken → IfOk made (IsCollocationList images corpus spans number first last least)) →
-    IfOk made (λ bytes. reply ≡ Lines bytes) → OnErr made (reply ≡ NoMemory) → AnswersAsk corpus (Colloc attr first last least cql) old new reply
-colloc_told corpus attr cql first last least number spans old new (Ok bytes) reply kept has list is none =
-    rw (kept, is) (colloc_lists corpus attr cql first last least number spans bytes old has list)
-colloc_told corpus attr cql first last least number spans old new (Err e) reply kept has list is none = rw (kept, none) (colloc_starves corpus attr cql first last least old)
+    IfOk made (λ bytes. reply ≡ Lines bytes) → OnErr made (reply ≡ NoMemory) → AnswersAsk corpus counted (Colloc attr first last least cql) old new reply
+colloc_told corpus counted attr cql first last least number spans old new (Ok bytes) reply kept has list is none =
+    rw (kept, is) (colloc_lists corpus counted attr cql first last least number spans bytes old has list)
+colloc_told corpus counted attr cql first last least number spans old new (Err e) reply kept has list is none = rw (kept, none) (colloc_starves corpus counted attr cql first last least old)

@@ -1,11 +1,13 @@
 -- What a reply of the program says.
-use Rattle.std.specs.Prelude.{ℕ, ◌≡◌, ◌⊎◌, List, [], ◌++◌, Option}
+use Rattle.std.specs.Prelude.{ℕ, ◌≡◌, ◌⊎◌, List, [], ◌++◌, Option, None, Some}
 use Rattle.std.specs.List.{flat_map}
 use Rattle.mt_text_spec.specs.Lines.{closed}
 use Rattle.mt_text_spec.specs.Queries.{Grammar}
 use Rattle.mt_match_spec.specs.Values.{Images}
 use Rattle.mt_corpus_spec.specs.Groups.{corpus_of}
 use Rattle.mt_corpus_spec.specs.Images.{Corpus, AreImagesBy}
+use Rattle.mt_counts.specs.Counted.{Counted}
+use Rattle.mt_triples.specs.CountsOf.{AreCountsOf}
 use Rattle.mt_script_spec.specs.Commands.{Ask}
 use Rattle.mt_session_spec.specs.Scenes.{Scene}
 use Rattle.mt_session_spec.specs.Gains.{Gained}
@@ -42,10 +44,17 @@ seen images corpus grammar = record { images = images; registry = corpus.registr
 abbrev pub gained_of : List (List ℕ) → Gained
 gained_of refused = record { failed = []; refused = refused }
 
--- The reply answers this question wherever this corpus is held, whatever the images that agree with those taken. Meanwhile the shop, which had refused the old texts,
--- came to have refused the new ones.
-pub record AnswersAsk (corpus : Corpus) (ask : Ask) (old new : List (List ℕ)) (reply : Reply) : Type 0 where
+-- What is counted of the corpus is what the grammar counts there, under these images. With no grammar nothing is counted.
+abbrev pub AreCountsBy : Images → Corpus → Option Grammar → Option Counted → Type 0
+AreCountsBy images corpus None None = Unit {0}
+AreCountsBy images corpus None (Some counted) = ⊥
+AreCountsBy images corpus (Some grammar) None = ⊥
+AreCountsBy images corpus (Some grammar) (Some counted) = AreCountsOf images corpus.registry grammar (corpus_of corpus.groups) counted
+
+-- The reply answers this question wherever this corpus and a grammar with these counts are held, whatever the images that agree with those taken. Meanwhile the shop, which
+-- had refused the old texts, came to have refused the new ones.
+pub record AnswersAsk (corpus : Corpus) (counts : Option Counted) (ask : Ask) (old new : List (List ℕ)) (reply : Reply) : Type 0 where
   pub refused : List (List ℕ)
   pub more : new ≡ old ++ refused
-  pub answers : (images : Images) (grammar : Option Grammar) → AreImagesBy images corpus.taken →
+  pub answers : (images : Images) (grammar : Option Grammar) → AreImagesBy images corpus.taken → AreCountsBy images corpus grammar counts →
       SaysOf (λ answer. AskStep (seen images corpus grammar) ask (gained_of refused) answer) reply

@@ -1,9 +1,10 @@
 //! `colloc`.
 
-ghost use Rattle.std.specs.Prelude.{◌≡◌, ◌≤ℤ◌, IfOk};
+ghost use Rattle.std.specs.Prelude.{◌≡◌, ◌≤ℤ◌, IfOk, Option};
 ghost use Rattle.mt_match_spec.specs.Values.{Images};
 ghost use Rattle.mt_corpus_spec.specs.Images.{AreImagesBy};
 ghost use Rattle.mt_report_spec.specs.Near.{window};
+ghost use Rattle.mt_counts.specs.Counted.{Counted};
 ghost use Rattle.mt_script_spec.specs.Commands as spec;
 ghost use Rattle.mt_answer.specs.Replies.{AnswersAsk};
 ghost use Rattle.mt_answer.specs.Reports.{IsCollocationList, IsReportOver};
@@ -29,7 +30,7 @@ pub(crate) fn colloc<P: PatternShop>(
     shop: &mut P,
 ) -> Reply
     requires { HasImages corpus.now }
-    ensures { AnswersAsk corpus.now (spec.Colloc attr.now from to min cql.now) (P.refused shop.old) (P.refused shop.new) result }
+    ensures { (counts : Option Counted) → AnswersAsk corpus.now counts (spec.Colloc attr.now from to min cql.now) (P.refused shop.old) (P.refused shop.new) result }
 {
     match report_of(alloc, corpus, attr.as_str(), cql.as_str(), shop) {
         Ok(report) => lines(collocation_list(alloc, corpus, &report, from, to, min)),

@@ -1,5 +1,7 @@
 //! `count`.
 
+ghost use Rattle.std.specs.Prelude.{Option};
+ghost use Rattle.mt_counts.specs.Counted.{Counted};
 ghost use Rattle.mt_script_spec.specs.Commands as spec;
 ghost use Rattle.mt_answer.specs.Replies.{AnswersAsk};
 
@@ -13,7 +15,7 @@ use std::alloc::Global;
 
 /// `count`: the number of spans of a query.
 pub fn count<P: PatternShop>(alloc: Global, corpus: &Corpus, cql: &Value, shop: &mut P) -> Reply
-    ensures { AnswersAsk corpus.now (spec.Count cql.now) (P.refused shop.old) (P.refused shop.new) result }
+    ensures { (counts : Option Counted) → AnswersAsk corpus.now counts (spec.Count cql.now) (P.refused shop.old) (P.refused shop.new) result }
 {
     match query_rows(alloc, corpus, cql.as_str(), shop) {
         Ok(rows) => lines(count_line(alloc, "=", span_count(&rows) as u128)),

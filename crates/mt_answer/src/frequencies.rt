@@ -1,8 +1,9 @@
 //! `freq`.
 
-ghost use Rattle.std.specs.Prelude.{IfOk};
+ghost use Rattle.std.specs.Prelude.{IfOk, Option};
 ghost use Rattle.mt_match_spec.specs.Values.{Images};
 ghost use Rattle.mt_corpus_spec.specs.Images.{AreImagesBy};
+ghost use Rattle.mt_counts.specs.Counted.{Counted};
 ghost use Rattle.mt_script_spec.specs.Commands as spec;
 ghost use Rattle.mt_answer.specs.Replies.{AnswersAsk};
 ghost use Rattle.mt_answer.specs.Reports.{IsFrequencyList, IsReportOver};
@@ -26,7 +27,7 @@ pub(crate) fn freq<P: PatternShop>(
     shop: &mut P,
 ) -> Reply
     requires { HasImages corpus.now }
-    ensures { AnswersAsk corpus.now (spec.Freq attr.now offset cql.now) (P.refused shop.old) (P.refused shop.new) result }
+    ensures { (counts : Option Counted) → AnswersAsk corpus.now counts (spec.Freq attr.now offset cql.now) (P.refused shop.old) (P.refused shop.new) result }
 {
     match report_of(alloc, corpus, attr.as_str(), cql.as_str(), shop) {
         Ok(report) => lines(frequency_list(alloc, corpus, &report, offset)),

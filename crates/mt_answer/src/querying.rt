@@ -1,11 +1,12 @@
 //! `query`.
 
-ghost use Rattle.std.specs.Prelude.{IfOk};
+ghost use Rattle.std.specs.Prelude.{IfOk, Option};
 ghost use Rattle.std.specs.List.{All};
 ghost use Rattle.mt_match_spec.specs.Values.{Images};
 ghost use Rattle.mt_corpus_spec.specs.Groups.{corpus_of};
 ghost use Rattle.mt_corpus_spec.specs.Images.{AreImagesBy};
 ghost use Rattle.mt_report_spec.specs.Held.{LiesIn};
+ghost use Rattle.mt_counts.specs.Counted.{Counted};
 ghost use Rattle.mt_script_spec.specs.Commands as spec;
 ghost use Rattle.mt_answer.specs.Replies.{AnswersAsk};
 ghost use Rattle.mt_answer.specs.Rows.{HasImages, IsConcordance};
@@ -22,7 +23,7 @@ use std::alloc::Global;
 /// `query`: the concordance of a query, one line a span.
 pub fn query<P: PatternShop>(alloc: Global, corpus: &Corpus, cql: &Value, shop: &mut P) -> Reply
     requires { HasImages corpus.now }
-    ensures { AnswersAsk corpus.now (spec.Query cql.now) (P.refused shop.old) (P.refused shop.new) result }
+    ensures { (counts : Option Counted) → AnswersAsk corpus.now counts (spec.Query cql.now) (P.refused shop.old) (P.refused shop.new) result }
 {
     match query_rows(alloc, corpus, cql.as_str(), shop) {
         Ok(rows) => lines(concordance(alloc, corpus, &rows)),

@@ -1,5 +1,8 @@
-use Rattle.mt_answer.proofs.Asks.{unbuilt_ask}
+use Rattle.std.proofs.Common.{rules, option_copied}
 use Rattle.mt_answer.proofs.asking.answer.Goals as goal
 
-pub returns-in_default : goal.returns-in_default
-returns-in_default g c = unbuilt_ask c.args.corpus.now (g.P.PatternShop.refused c.args.shop.now) c.args.ask.now c.refused.result c.in_default.not-Count c.in_default.not-Query c.in_default.not-Freq c.in_default.not-Colloc c.refused.ensures
+pub returns-in-Freq : goal.returns-in-Freq
+returns-in-Freq g c = let h = c.freq.ensures (option_copied c.args.counts) in search rules
+
+pub returns-in-Colloc : goal.returns-in-Colloc
+returns-in-Colloc g c = let h = c.colloc.ensures (option_copied c.args.counts) in search rules

@@ -9,9 +9,9 @@ frequency_list-requires-clause-report g c = report_over c.args.corpus.now _ _ c.
 pub returns-in-Ok : goal.returns-in-Ok
 returns-in-Ok g c =
     let same : to_z w32 (of_z w32 c.args.offset) ≡ c.args.offset = to_z-of_z w32 c.args.offset c.ranges.offset in
-    freq_told c.args.corpus.now c.args.attr.now c.args.cql.now c.args.offset c.in-Ok.report.attr c.in-Ok.report.spans (g.P.PatternShop.refused c.args.shop.now) (g.P.PatternShop.refused c.report_of.new.shop)
+    λ counted. freq_told c.args.corpus.now counted c.args.attr.now c.args.cql.now c.args.offset c.in-Ok.report.attr c.in-Ok.report.spans (g.P.PatternShop.refused c.args.shop.now) (g.P.PatternShop.refused c.report_of.new.shop)
     c.frequency_list.result c.lines.result c.in-Ok.ensures.shop (rw (c.as_str.ensures, c.as_str-2.ensures) at c.in-Ok.ensures.report) (simp same at c.frequency_list.ensures) c.lines.ensures.made c.lines.ensures.starved
 
 pub returns-in-Err : goal.returns-in-Err
-returns-in-Err g c = freq_declines c.args.corpus.now c.args.attr.now c.args.cql.now c.args.offset (g.P.PatternShop.refused c.args.shop.now) (g.P.PatternShop.refused c.report_of.new.shop) c.in-Err.declined c.reply.result
+returns-in-Err g c = λ counted. freq_declines c.args.corpus.now counted c.args.attr.now c.args.cql.now c.args.offset (g.P.PatternShop.refused c.args.shop.now) (g.P.PatternShop.refused c.report_of.new.shop) c.in-Err.declined c.reply.result
     (rw (c.as_str.ensures, c.as_str-2.ensures) at c.in-Err.ensures.declined) c.reply.ensures
