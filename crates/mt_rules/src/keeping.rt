@@ -1,0 +1,80 @@
+//! A text that comes to the corpus.
+
+ghost use Rattle.std.specs.Prelude.{◌≡◌, OnOk, OnErr, IsErrOf};
+ghost use Rattle.mt_text_spec.specs.Texts as texts;
+ghost use Rattle.mt_corpus.specs.Added.{MayBeKept, SomeMayBeKept};
+ghost use Rattle.mt_rules.specs.Ruled.{AreOver};
+ghost use Rattle.mt_rules.specs.Keeping.{HaveImages, IsCountedAlone, IsNotTooRich, IsTooRich, KeepsAlone};
+
+use super::rules::Rules;
+use mt_corpus::Corpus;
+use mt_count_laws::{one_count, one_unary_count};
+use mt_grammar_counts::{CountError, count_added};
+use mt_pattern::PatternShop;
+use mt_segment::Segment;
+use mt_triples::Triples;
+use std::alloc::Global;
+
+impl<P: PatternShop> Rules<P> {
+    /// Keeps the text of a segment behind the others of the corpus, and counts it, unless some query has too many rows in it. Where it is not kept, the corpus is as it
+    /// was, and so are the counts. No text that was counted before is looked at. The caller knows mappers that make the images that were taken and those
+    /// of the segment.
+    pub fn keep(
+        &mut self,
+        alloc: Global,
+        corpus: &mut Corpus,
+        segment: Segment,
+        shop: &mut P,
+    ) -> Result<(), CountError>
+        requires over { AreOver corpus.old self.old }
+        requires segment { SomeMayBeKept corpus.old segment }
+        requires images { HaveImages corpus.old segment }
+        ensures ok { (text : texts.Text) → MayBeKept corpus.old text segment → OnOk result (KeepsAlone corpus.old text segment corpus.new) }
+        ensures err { OnErr result (corpus.new ≡ corpus.old) }
+        ensures over { AreOver corpus.new self.new }
+        ensures grammar { self.new.grammar ≡ self.old.grammar }
+        ensures too_many { (text : texts.Text) → MayBeKept corpus.old text segment → IsErrOf result CountError.TooManyRows → IsTooRich corpus.old self.old.grammar text segment }
+        ensures room { (text : texts.Text) → MayBeKept corpus.old text segment → OnOk result (IsNotTooRich corpus.old self.old.grammar text segment) }
+        ensures shop { P.refused shop.new ≡ P.refused shop.old }
+    {
+        let more = count_added(
+            alloc,
+            corpus,
+            &self.grammar,
+            &mut self.patterns,
+            &segment,
+            shop,
+        )?;
+        self.keep_counted(alloc, corpus, segment, &more)
+    }
+
+    /// Keeps the text of a segment, which has been counted.
+    fn keep_counted(
+        &mut self,
+        alloc: Global,
+        corpus: &mut Corpus,
+        segment: Segment,
+        more: &Triples,
+    ) -> Result<(), CountError>
+        requires over { AreOver corpus.old self.old }
+        requires segment { SomeMayBeKept corpus.old segment }
+        requires images { HaveImages corpus.old segment }
+        requires counts { (text : texts.Text) → MayBeKept corpus.old text segment → IsCountedAlone corpus.old self.old.grammar text segment more.now }
+        ensures ok { (text : texts.Text) → MayBeKept corpus.old text segment → OnOk result (KeepsAlone corpus.old text segment corpus.new) }
+        ensures err { OnErr result (corpus.new ≡ corpus.old) }
+        ensures over { AreOver corpus.new self.new }
+        ensures grammar { self.new.grammar ≡ self.old.grammar }
+        ensures starved { IsErrOf result CountError.TooManyRows → ⊥ }
+    {
+        one_count();
+        one_unary_count();
+        self.counts.add(alloc, more)?;
+        match corpus.keep(segment) {
+            Ok(()) => Ok(()),
+            Err(_) => {
+                self.counts.subtract(more);
+                Err(CountError::NoMemory)
+            }
+        }
+    }
+}
