@@ -22,6 +22,7 @@ use mt_words::{WordsError, read_words};
 use standard::{FolderShelf, StdinSource, StdoutSink};
 use std::alloc::Global;
 use std::process::ExitCode;
+use std::thread::Threads;
 use std::{env, io};
 
 const USAGE: &str = "usage: corpus_shell [--workers N] [--demo N]";
@@ -31,7 +32,7 @@ fn main(rt: HostRuntime) -> ExitCode {
     let mut sink = StdoutSink::new(rt.stdout());
     let mut shelf = FolderShelf::new(&rt);
     let status = match words(&rt) {
-        Ok(words) => match serve(rt.alloc(), &words, &mut source, &mut sink, &mut shelf) {
+        Ok(words) => match serve(&rt, rt.alloc(), &words, &mut source, &mut sink, &mut shelf) {
             Ok(status) => status,
             Err(NoMemory) => starved(rt.alloc(), &words),
         },
@@ -55,7 +56,8 @@ fn words(rt: &HostRuntime) -> io::Result<Vec<String>> {
 const MOST_KEPT: u32 = 3;
 
 /// Answers the script with a shop of regular expressions and every mapper of the program.
-fn serve<S: Source, K: Sink, F: Shelf>(
+fn serve<R: Threads + Sync, S: Source, K: Sink, F: Shelf>(
+    rt: &R,
     alloc: Global,
     words: &[String],
     source: &mut S,
@@ -72,7 +74,7 @@ fn serve<S: Source, K: Sink, F: Shelf>(
         mappers.push(Box::new(alloc, Suffix::new(alloc, n)?)?)?;
     }
     let mut shop = RegexShop::new(alloc);
-    Ok(answer(alloc, words, source, sink, shelf, &mut shop, mappers))
+    Ok(answer(rt, alloc, words, source, sink, shelf, &mut shop, mappers))
 }
 
 /// How a run ends that finds no memory for the mappers.
@@ -87,7 +89,8 @@ fn starved(alloc: Global, words: &[String]) -> Status
 }
 
 /// Answers the script that the source gives, or a demo's, as these words of the command line say, where this shop makes the patterns and these mappers are at hand.
-fn answer<M: Mapper, S: Source, K: Sink, F: Shelf, P: PatternShop>(
+fn answer<P: PatternShop, M: Mapper, R: Threads + Sync, S: Source, K: Sink, F: Shelf>(
+    rt: &R,
     alloc: Global,
     words: &[String],
     source: &mut S,
@@ -106,7 +109,7 @@ fn answer<M: Mapper, S: Source, K: Sink, F: Shelf, P: PatternShop>(
     ensures usage { result ≡ Status.Usage → AreGood (texts words.now) → ⊥ }
     ensures bad { (AreGood (texts words.now) → ⊥) → (result ≡ Status.Usage) ⊎ (result ≡ Status.NoMemory) }
 {
-    run(alloc, words, source, sink, shelf, shop, mappers)
+    run(rt, alloc, words, source, sink, shelf, shop, mappers)
 }
 
 /// The status where the words cannot be had: those that are no text are not good.

@@ -1,11 +1,11 @@
 -- What the replies to `text` and `add` mean.
-use Rattle.std.proofs.Common.{◌≡◌, ◌⊎◌, inl, inr, ℕ, Bool, List, Option, None, Some, [], ◌∷◌, ◌++◌, length, map, take, refl, sym, ◌∙◌, ap, subst, codes, append-nil}
+use Rattle.std.proofs.Common.{◌≡◌, ◌⊎◌, inl, inr, ℕ, Bool, List, Option, [], ◌∷◌, ◌++◌, length, map, take, refl, sym, ◌∙◌, ap, subst, codes, append-nil}
 use Rattle.std.specs.Fmt.{decimal}
 use Rattle.std.proofs.Math.Seq.{take-append_seam}
 use Rattle.std.proofs.lemmas.List.{length-map}
 use Rattle.std.specs.List.{flat_map}
 use Rattle.mt_text_spec.specs.Lines.{closed}
-use Rattle.mt_text_spec.specs.Registries.{Registry, ValidRegistry}
+use Rattle.mt_text_spec.specs.Registries.{ValidRegistry}
 use Rattle.mt_text_spec.specs.Texts.{Text, ValidText}
 use Rattle.mt_text_spec.specs.Queries.{Grammar}
 use Rattle.mt_shelf_spec.specs.Files.{Files}
@@ -13,9 +13,12 @@ use Rattle.mt_file_spec.specs.Vertical.{Vertical, FirstTextFault, TextCause}
 use Rattle.mt_vertical.specs.TextLaws.{OneText, NoTextWithFault}
 use Rattle.mt_rule_spec.specs.Rules.{HasTooManyIn}
 use Rattle.mt_script_spec.specs.Commands.{Text as TextCommand, Add}
-use Rattle.mt_session_spec.specs.World.{Held, World, Group, ValidHeld, Holds, IsFull, with_text, alone}
-use Rattle.mt_corpus_spec.specs.Images.{Corpus, AreImagesBy}
-use Rattle.mt_corpus.specs.Keeping.{AgreeWith, firsts, is_named}
+use Rattle.mt_session_spec.specs.World.{Held, World, Holds, IsFull, with_text}
+use Rattle.mt_segment_spec.specs.Tables.{Tables}
+use Rattle.mt_corpus_spec.specs.Images.{Corpus}
+use Rattle.mt_corpus.specs.Held.{IsMadeOf}
+use Rattle.mt_corpus.specs.Added.{MayBeKept}
+use Rattle.mt_corpus.specs.Keeping.{AgreeWith}
 use Rattle.mt_segment.specs.Mappers.{AreThere, named}
 use Rattle.mt_session_spec.specs.Settings.{Setting, images_of}
 use Rattle.mt_session_spec.specs.Gains.{Gained, none_gained}
@@ -25,12 +28,12 @@ use Rattle.mt_session_spec.specs.Answers as answers
 use Rattle.mt_session_spec.specs.Files.{IsAbsent, IsTooLong, IsFile, file_checks}
 use Rattle.mt_session_spec.specs.Meaning.{Meaning, Exception, LoadsNone, LoadsBehind, Starved, Blocked}
 use Rattle.mt_session_spec.specs.Adding.{IsNoText, BadLine, IsTooMuch, IsTooRich, AddsText, name_checks, text_checks, texting, adding}
-use Rattle.mt_session_spec.specs.Laws.{HeldIsValid}
 use Rattle.mt_session_spec.specs.Steps.{StepBy, Meant, Excepted, Declined, Accepted}
 use Rattle.mt_answer.specs.declared.reply.Reply.{Reply}
 use Rattle.mt_answer.specs.declared.reply.Reply.TheVariants.{Lines, NoMemory}
 use Rattle.mt_answer.specs.Replies.{SaysLines, SaysNoMemory, Given}
 use Rattle.mt_shell.specs.Serves.{Kept, Serves, kept}
+use Rattle.mt_shell.specs.Holding.{corpus_in}
 use Rattle.mt_shell.specs.Answers.{Answers, AnswersAlone, IsRich, Keeps, NoRoom, TooRich, Kept as KeptText, KeptNot, Takes, Faulty, Sound, TakenNot, KeepsText, ReadsText, over}
 use Rattle.mt_shell.proofs.Meanings.{declined, kept_from, starved, no_cause, first_behind, none_both}
 use Rattle.mt_shell.proofs.Shelves.{same_bytes, not_absent, file_is_there, at_file}
@@ -179,66 +182,43 @@ no_room setting held text reply f g = record { answer = g.answer; says = g.says;
     by answer (inl e) = rw e (NoRoom f)
     by answer (inr e) = rw e KeptNot
 
--- where no grammar is held, none has too many rows
-pub no_rules : (setting : Setting) (state : Kept) (accepted : Bool) (corpus : Corpus) (text : Text) → kept accepted None corpus ≡ state → IsRich setting state.held text → ⊥
-no_rules setting state accepted corpus text v rich = let none : None ≡ Some rich.grammar = ap (λ (k : Kept). k.held.grammar) v ∙ rich.ruled in cc
-
--- a corpus with a text more
-text_changed : (state : Kept) (accepted : Bool) (grammar : Option Grammar) (corpus more : Corpus) (text : Text) → kept accepted grammar corpus ≡ state → more.registry ≡ corpus.registry → more.groups ≡ corpus.groups ++ alone text ∷ [] →
-    (kept accepted grammar more).held ≡ with_text state.held text
-text_changed state accepted grammar corpus more text v r m =
-    let held : Registry → List Group → Held = λ registry groups. record { registry = registry; accepted = accepted; grammar = grammar; groups = groups } in
-    ap (λ registry. held registry more.groups) r ∙ ap (λ groups. held corpus.registry groups) m ∙ ap (λ (k : Kept). with_text k.held text) v
-
 one_line : (line : List ℕ) → flat_map closed (line ∷ []) ≡ closed line
 one_line line = append-nil (closed line)
 
 pub line_is : (tokens : ℕ) (text : Text) (line : List ℕ) → line ≡ closed (codes "ok" ++ 32 ∷ decimal tokens) → tokens ≡ length text.tokens → line ≡ closed (codes "ok" ++ 32 ∷ decimal (length text.tokens))
 line_is tokens text line e n = e ∙ ap (λ (k : ℕ). closed (codes "ok" ++ 32 ∷ decimal k)) n
 
-room_for : (state : Kept) (accepted : Bool) (grammar : Option Grammar) (corpus : Corpus) (text : Text) (tokens : ℕ) → kept accepted grammar corpus ≡ state → tokens ≡ length text.tokens → (IsFull corpus.groups tokens → ⊥) → IsFull state.held.groups (length text.tokens) → ⊥
+pub room_for : (state : Kept) (accepted : Bool) (grammar : Option Grammar) (corpus : Corpus) (text : Text) (tokens : ℕ) → kept accepted grammar corpus ≡ state → tokens ≡ length text.tokens → (IsFull corpus.groups tokens → ⊥) → IsFull state.held.groups (length text.tokens) → ⊥
 room_for state accepted grammar corpus text tokens v n room = subst (λ (k : Kept). IsFull k.held.groups (length text.tokens) → ⊥) v (rw n at room)
 
-pub text_kept : (setting : Setting) (state : Kept) (accepted : Bool) (grammar : Option Grammar) (corpus more : Corpus) (text : Text) (tokens : ℕ) (line : List ℕ) (reply : Reply) → kept accepted grammar corpus ≡ state → tokens ≡ length text.tokens → (IsFull corpus.groups tokens → ⊥) →
-    (IsRich setting state.held text → ⊥) → more.registry ≡ corpus.registry → more.groups ≡ corpus.groups ++ alone text ∷ [] → line ≡ closed (codes "ok" ++ 32 ∷ decimal (length text.tokens)) → reply ≡ Lines line →
-    KeepsText setting state.held text reply (kept accepted grammar more).held
-text_kept setting state accepted grammar corpus more text tokens line reply v n room poor r m e is = record {
+pub text_kept : (setting : Setting) (held new : Held) (text : Text) (line : List ℕ) → (IsFull held.groups (length text.tokens) → ⊥) → (IsRich setting held text → ⊥) → new ≡ with_text held text → line ≡ closed (codes "ok" ++ 32 ∷ decimal (length text.tokens)) →
+    KeepsText setting held text (Lines line) new
+text_kept setting held new text line room poor m e = record {
   answer = answers.Lines ((codes "ok " ++ decimal (length text.tokens)) ∷ []);
-  says = rw is (SaysLines line ((codes "ok " ++ decimal (length text.tokens)) ∷ []) (e ∙ sym (one_line (codes "ok " ++ decimal (length text.tokens)))));
-  holds = rw (text_changed state accepted grammar corpus more text v r m) (KeptText (room_for state accepted grammar corpus text tokens v n room) poor);
+  says = SaysLines line ((codes "ok " ++ decimal (length text.tokens)) ∷ []) (e ∙ sym (one_line (codes "ok " ++ decimal (length text.tokens))));
+  holds = rw m (KeptText room poor);
 }
 
-pub kept_not : (setting : Setting) (held : Held) (text : Text) → KeepsText setting held text NoMemory held
-kept_not setting held text = record { answer = answers.Refused no_memory_line; says = SaysNoMemory; holds = KeptNot }
+pub too_rich : (setting : Setting) (held new : Held) (text : Text) (reply : Reply) → (IsFull held.groups (length text.tokens) → ⊥) → IsRich setting held text → new ≡ held → Given (answers.Refused (refusal_line TooManyRows)) reply → KeepsText setting held text reply new
+too_rich setting held new text reply room rich m g = rw m (record { answer = g.answer; says = g.says; holds = by g.answer g.holds })
+  where
+    by : (answer : answers.Answer) → (answer ≡ answers.Refused (refusal_line TooManyRows)) ⊎ (answer ≡ answers.Refused no_memory_line) → Keeps setting held text answer held
+    by answer (inl e) = rw e (TooRich room rich)
+    by answer (inr e) = rw e KeptNot
 
-pub kept_no_more : (setting : Setting) (state : Kept) (accepted : Bool) (grammar : Option Grammar) (corpus more : Corpus) (text : Text) (reply : Reply) → kept accepted grammar corpus ≡ state → more ≡ corpus → reply ≡ NoMemory → KeepsText setting state.held text reply (kept accepted grammar more).held
-kept_no_more setting state accepted grammar corpus more text reply v m r =
-    subst (λ (held : Held). KeepsText setting state.held text reply held) (sym (ap (λ (c : Corpus). (kept accepted grammar c).held) m ∙ ap (λ (k : Kept). k.held) v)) (rw r (kept_not setting state.held text))
+pub kept_not : (setting : Setting) (held new : Held) (text : Text) → new ≡ held → KeepsText setting held text NoMemory new
+kept_not setting held new text m = rw m (record { answer = answers.Refused no_memory_line; says = SaysNoMemory; holds = KeptNot })
 
--- what is held is valid with it
-pub kept_valid : (laws : HeldIsValid) (state : Kept) (accepted : Bool) (grammar : Option Grammar) (corpus more : Corpus) (text : Text) (tokens : ℕ) → kept accepted grammar corpus ≡ state → ValidHeld (kept accepted grammar corpus).held →
-    ValidText state.held.registry text → (Holds state.held text.name → ⊥) → tokens ≡ length text.tokens → (IsFull corpus.groups tokens → ⊥) → more.registry ≡ corpus.registry → more.groups ≡ corpus.groups ++ alone text ∷ [] →
-    ValidHeld (kept accepted grammar more).held
-kept_valid laws state accepted grammar corpus more text tokens v valid one free n room r m =
-    rw (text_changed state accepted grammar corpus more text v r m)
-    (laws.text state.held text (subst (λ (k : Kept). ValidHeld k.held) v valid) one free (room_for state accepted grammar corpus text tokens v n room))
+-- the text may be kept by tables that are made of it
+pub may_keep : (state : Kept) (accepted : Bool) (grammar : Option Grammar) (corpus : Corpus) (text : Text) (tables : Tables) → kept accepted grammar corpus ≡ state → ValidText state.held.registry text → (Holds state.held text.name → ⊥) →
+    (IsFull state.held.groups (length text.tokens) → ⊥) → IsMadeOf corpus.registry text tables → MayBeKept (corpus_in state) text tables
+may_keep state accepted grammar corpus text tables v valid free room made =
+    record { valid = valid; made = subst (λ (k : Kept). IsMadeOf k.held.registry text tables) v made; free = free; room = room }
 
--- the same mappers serve it
-pub serves_more : (setting : Setting) (mappers others : List (List ℕ × (List ℕ → List ℕ))) (state : Kept) (accepted : Bool) (grammar : Option Grammar) (corpus more : Corpus) → kept accepted grammar corpus ≡ state → others ≡ mappers → more.registry ≡ corpus.registry →
-    (((images : List ℕ → List ℕ → List ℕ) → AgreeWith images mappers corpus.registry → AreImagesBy images corpus.taken → AreImagesBy images more.taken)) → Serves setting mappers state → Serves setting others (kept accepted grammar more)
-serves_more setting mappers others state accepted grammar corpus more v o r taken s =
-    let t : Serves setting mappers (kept accepted grammar corpus) = subst (λ (k : Kept). Serves setting mappers k) (sym v) s in
-    record {
-      all = λ e. o ∙ t.all e;
-      only = λ e. o ∙ t.only e ∙ ap (λ (registry : Registry). firsts (λ (mapper : List ℕ × (List ℕ → List ℕ)). mapper.0) (is_named registry) [] setting.mappers) (sym r);
-      there = rw (o, r) t.there;
-      agree = rw (o, r) t.agree;
-      taken = taken (images_of setting) t.agree t.taken;
-    }
-
-pub serves_same : (setting : Setting) (mappers others : List (List ℕ × (List ℕ → List ℕ))) (state : Kept) (accepted : Bool) (grammar : Option Grammar) (corpus more : Corpus) → kept accepted grammar corpus ≡ state → others ≡ mappers → more ≡ corpus →
-    Serves setting mappers state → Serves setting others (kept accepted grammar more)
-serves_same setting mappers others state accepted grammar corpus more v o m s = rw (o, m, v) s
+-- mappers that serve make the images of the setting
+pub images_agree : (setting : Setting) (mappers : List (List ℕ × (List ℕ → List ℕ))) (state : Kept) (accepted : Bool) (grammar : Option Grammar) (corpus : Corpus) → kept accepted grammar corpus ≡ state → Serves setting mappers state →
+    AgreeWith (images_of setting) mappers corpus.registry
+images_agree setting mappers state accepted grammar corpus v s = (subst (λ (k : Kept). Serves setting mappers k) (sym v) s).agree
 
 pub called_named : {M : Type 0} (called : M → List ℕ) (image : M → List ℕ → List ℕ) (mappers : List M) → map (λ mapper. mapper.0) (named called image mappers) ≡ map called mappers
 called_named called image [] = refl

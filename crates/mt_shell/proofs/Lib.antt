@@ -1,6 +1,9 @@
 pub mod Shelves
 pub mod Meanings
 pub mod Fetches
+pub mod Holding
+pub mod Asking
+pub mod Ruling
 pub mod Keeping
 pub mod Unbuilt
 pub mod Adding

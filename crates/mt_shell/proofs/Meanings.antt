@@ -81,7 +81,7 @@ same_known known held files agrees = ap (λ (fs : Option Files). known_as held f
     same_files None agrees = refl
     same_files (Some all) agrees = ap Some (sym (agrees all refl))
 
-steps : (setting : Setting) (held new : Held) (command : Command) (reply : Reply) (gained : Gained) (files : Files) (start end : Outside) → ((all : Files) → start.files ≡ Some all → files ≡ all) → end ≡ gains start gained →
+pub steps : (setting : Setting) (held new : Held) (command : Command) (reply : Reply) (gained : Gained) (files : Files) (start end : Outside) → ((all : Files) → start.files ≡ Some all → files ≡ all) → end ≡ gains start gained →
     Answers setting (over held files) command gained reply (over new files) → Stepped setting held command reply new start end
 steps setting held new command reply gained files start end agrees e a =
     let same : end.files ≡ start.files = ap (λ (o : Outside). o.files) e in

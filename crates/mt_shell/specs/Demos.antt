@@ -1,5 +1,5 @@
 -- Which script a run reads: that of the source, or with a demo that of the demo.
-use Rattle.std.specs.Prelude.{ℕ, ◌≡◌, List, Option, None, Some}
+use Rattle.std.specs.Prelude.{ℕ, List, Option, None, Some}
 use Rattle.mt_generate_spec.specs.Demo.{demo_script}
 use Rattle.mt_session_spec.specs.Runs.{Outside}
 

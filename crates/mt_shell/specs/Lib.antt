@@ -1,5 +1,6 @@
-pub mod Codes
 pub mod Serves
+pub mod Holding
+pub mod Ruling
 pub mod Listed
 pub mod Sights
 pub mod Outsides

@@ -21,17 +21,18 @@ use mt_pattern::PatternShop;
 use mt_script::Command;
 use mt_session_laws::refused_keep;
 use std::alloc::Global;
+use std::thread::Threads;
 
 /// The mappers that are at hand, and what the accepted commands have left. Once a registry is accepted, only the mappers that it names are kept.
 #[derive(Drop)]
-pub struct Session<M: Mapper> {
+pub struct Session<P: PatternShop, M: Mapper> {
     alloc: Global,
     pub mappers: Vec<M>,
-    pub state: State,
+    pub state: State<P>,
 }
 
-impl<M: Mapper> Session<M> {
-    /// The standard registry, and no texts.
+impl<P: PatternShop, M: Mapper> Session<P, M> {
+    /// The standard registry, no texts and no grammar.
     pub fn new(alloc: Global, mappers: Vec<M>) -> Result<Self, NoMemory>
         ensures mappers { IfOk result (λ session. session.mappers ≡ mappers) }
         ensures state { IfOk result (λ session. session.state ≡ first_kept) }
@@ -44,8 +45,9 @@ impl<M: Mapper> Session<M> {
     }
 
     /// Does what the command says, and answers it.
-    pub fn step<E: Edge, P: PatternShop>(
+    pub fn step<R: Threads + Sync, E: Edge>(
         &mut self,
+        rt: &R,
         command: Command,
         edge: &mut E,
         shop: &mut P,
@@ -69,17 +71,21 @@ impl<M: Mapper> Session<M> {
             Command::Registry { file } => self.state.set_registry(&file, &mut self.mappers, edge),
             Command::Text { name, body } => {
                 self.state
-                    .add_text(&name, body.as_slice(), &mut self.mappers)
+                    .add_text(&name, body.as_slice(), &mut self.mappers, shop)
             }
             Command::Add { name, file } => {
-                self.state.add_file(&name, &file, &mut self.mappers, edge)
+                self.state
+                    .add_file(&name, &file, &mut self.mappers, edge, shop)
             }
             Command::Generate { name, seed, tokens } => {
-                self.state.generate(&name, seed, tokens, &mut self.mappers)
+                self.state
+                    .generate(&name, seed, tokens, &mut self.mappers, shop)
             }
-            Command::Ask(ask) => self.state.answer(&ask, shop),
+            Command::Ask(ask) => self.state.answer(rt, &ask, shop),
+            Command::Grammar { file } => self.state.set_grammar(&file, edge, shop),
+            Command::Rules { body } => self.state.set_rules(body.as_slice(), shop),
             Command::Segments => self.state.segments(),
-            Command::Remove { name } => self.state.remove(&name),
+            Command::Remove { name } => self.state.remove(&name, shop),
             Command::Quit => quit(alloc),
             _ => refused(alloc, &Refusal::BadCommand),
         }

@@ -23,6 +23,7 @@ use mt_outside::SinkError;
 use mt_pattern::PatternShop;
 use mt_script::{Command, Next, ScriptReader};
 use std::alloc::Global;
+use std::thread::Threads;
 
 /// Whether the run goes on.
 #[derive(Clone, Copy, Debug, PartialEq, Eq, Drop)]
@@ -35,13 +36,13 @@ pub enum Flow {
 
 /// A script that is read and the session that answers it.
 #[derive(Drop)]
-pub struct Talk<M: Mapper> {
+pub struct Talk<P: PatternShop, M: Mapper> {
     alloc: Global,
     pub reader: ScriptReader,
-    pub session: Session<M>,
+    pub session: Session<P, M>,
 }
 
-impl<M: Mapper> Talk<M> {
+impl<P: PatternShop, M: Mapper> Talk<P, M> {
     /// Nothing was read yet, and no text is held.
     pub fn new(alloc: Global, mappers: Vec<M>) -> Result<Self, NoMemory>
         ensures reader { IfOk result (λ talk. talk.reader ≡ record { bytes = []; ended = false }) }
@@ -56,8 +57,9 @@ impl<M: Mapper> Talk<M> {
     }
 
     /// Takes a piece of the script, and answers the items that are whole.
-    pub fn take<E: Edge, P: PatternShop>(
+    pub fn take<R: Threads + Sync, E: Edge>(
         &mut self,
+        rt: &R,
         piece: &[u8],
         edge: &mut E,
         shop: &mut P,
@@ -81,14 +83,15 @@ impl<M: Mapper> Talk<M> {
         ensures names { E.names edge.new ≡ E.names edge.old }
     {
         match self.reader.feed(piece) {
-            Ok(()) => self.answer(edge, shop),
+            Ok(()) => self.answer(rt, edge, shop),
             Err(_) => Err(SinkError::NoMemory),
         }
     }
 
     /// Answers what is left where the script has ended.
-    pub fn finish<E: Edge, P: PatternShop>(
+    pub fn finish<R: Threads + Sync, E: Edge>(
         &mut self,
+        rt: &R,
         edge: &mut E,
         shop: &mut P,
     ) -> Result<Flow, SinkError>
@@ -109,12 +112,13 @@ impl<M: Mapper> Talk<M> {
         ensures names { E.names edge.new ≡ E.names edge.old }
     {
         self.reader.end();
-        self.answer(edge, shop)
+        self.answer(rt, edge, shop)
     }
 
     /// Answers each whole item that waits, up to a `quit`.
-    fn answer<E: Edge, P: PatternShop>(
+    fn answer<R: Threads + Sync, E: Edge>(
         &mut self,
+        rt: &R,
         edge: &mut E,
         shop: &mut P,
     ) -> Result<Flow, SinkError>
@@ -140,7 +144,7 @@ impl<M: Mapper> Talk<M> {
             if is_last(&next) {
                 return Ok(Flow::On);
             }
-            match answer_item(&mut self.session, next, edge, shop)? {
+            match answer_item(rt, &mut self.session, next, edge, shop)? {
                 Flow::On => {}
                 Flow::Over => return Ok(Flow::Over),
             }
@@ -156,8 +160,9 @@ fn is_last(next: &Next) -> bool
 }
 
 /// Answers what comes next.
-fn answer_item<M: Mapper, E: Edge, P: PatternShop>(
-    session: &mut Session<M>,
+fn answer_item<P: PatternShop, M: Mapper, R: Threads + Sync, E: Edge>(
+    rt: &R,
+    session: &mut Session<P, M>,
     next: Next,
     edge: &mut E,
     shop: &mut P,
@@ -176,7 +181,7 @@ fn answer_item<M: Mapper, E: Edge, P: PatternShop>(
     ensures names { E.names edge.new ≡ E.names edge.old }
 {
     match next {
-        Next::Command(command) => answer_command(session, command, edge, shop),
+        Next::Command(command) => answer_command(rt, session, command, edge, shop),
         Next::Bad => write_then(edge, BAD_COMMAND.as_bytes(), Flow::On),
         Next::CutShort => write_then(edge, CUT_SHORT.as_bytes(), Flow::On),
         Next::NoMemory => Err(SinkError::NoMemory),
@@ -185,8 +190,9 @@ fn answer_item<M: Mapper, E: Edge, P: PatternShop>(
 }
 
 /// Answers a command. Its reply is whole before its first byte is written.
-fn answer_command<M: Mapper, E: Edge, P: PatternShop>(
-    session: &mut Session<M>,
+fn answer_command<P: PatternShop, M: Mapper, R: Threads + Sync, E: Edge>(
+    rt: &R,
+    session: &mut Session<P, M>,
     command: Command,
     edge: &mut E,
     shop: &mut P,
@@ -203,7 +209,7 @@ fn answer_command<M: Mapper, E: Edge, P: PatternShop>(
     ensures names { E.names edge.new ≡ E.names edge.old }
 {
     let flow = flow_behind(&command);
-    match session.step(command, edge, shop) {
+    match session.step(rt, command, edge, shop) {
         Reply::Refused(line) => write_then(edge, line.as_slice(), flow),
         Reply::Lines(lines) => write_then(edge, lines.as_slice(), flow),
         Reply::Last(line) => write_then(edge, line.as_slice(), flow),

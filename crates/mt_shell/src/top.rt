@@ -23,6 +23,7 @@ use mt_outside::{Failed, Shelf, Sink, SinkError, Source};
 use mt_pattern::PatternShop;
 use mt_words::{Options, WordsError, one_reading, read_words};
 use std::alloc::Global;
+use std::thread::Threads;
 
 /// How a run ended.
 #[derive(Clone, Copy, Debug, PartialEq, Eq, Drop)]
@@ -50,7 +51,8 @@ const BLOCK: usize = 65_536;
 /// Answers the script that the source gives, or with a demo the demo's, and writes each reply before more is read.
 ///
 /// The words are those of the command line behind the program's name. They are good where they say options.
-pub fn run<M: Mapper, S: Source, K: Sink, F: Shelf, P: PatternShop>(
+pub fn run<P: PatternShop, M: Mapper, R: Threads + Sync, S: Source, K: Sink, F: Shelf>(
+    rt: &R,
     alloc: Global,
     words: &[String],
     source: &mut S,
@@ -85,14 +87,15 @@ pub fn run<M: Mapper, S: Source, K: Sink, F: Shelf, P: PatternShop>(
 {
     one_reading();
     match read_words(alloc, words) {
-        Ok(options) => answer_by(alloc, options, source, sink, shelf, shop, mappers),
+        Ok(options) => answer_by(rt, alloc, options, source, sink, shelf, shop, mappers),
         Err(WordsError::Usage) => Status::Usage,
         Err(WordsError::NoMemory) => Status::NoMemory,
     }
 }
 
 /// Answers the script that the options say.
-fn answer_by<M: Mapper, S: Source, K: Sink, F: Shelf, P: PatternShop>(
+fn answer_by<P: PatternShop, M: Mapper, R: Threads + Sync, S: Source, K: Sink, F: Shelf>(
+    rt: &R,
     alloc: Global,
     options: Options,
     source: &mut S,
@@ -117,13 +120,14 @@ fn answer_by<M: Mapper, S: Source, K: Sink, F: Shelf, P: PatternShop>(
     ensures good { result ≢ Status.Usage }
 {
     match options.demo {
-        None => answer_script(alloc, source, sink, shelf, shop, mappers),
-        Some(number) => answer_demo(alloc, number, sink, shelf, shop, mappers),
+        None => answer_script(rt, alloc, source, sink, shelf, shop, mappers),
+        Some(number) => answer_demo(rt, alloc, number, sink, shelf, shop, mappers),
     }
 }
 
 /// Answers the script of the demo over so many texts.
-fn answer_demo<M: Mapper, K: Sink, F: Shelf, P: PatternShop>(
+fn answer_demo<P: PatternShop, M: Mapper, R: Threads + Sync, K: Sink, F: Shelf>(
+    rt: &R,
     alloc: Global,
     number: u32,
     sink: &mut K,
@@ -149,11 +153,12 @@ fn answer_demo<M: Mapper, K: Sink, F: Shelf, P: PatternShop>(
         return Status::NoMemory;
     };
     let mut script = Script::new(bytes);
-    answer_script(alloc, &mut script, sink, shelf, shop, mappers)
+    answer_script(rt, alloc, &mut script, sink, shelf, shop, mappers)
 }
 
 /// Answers the script that a source gives.
-fn answer_script<M: Mapper, S: Source, K: Sink, F: Shelf, P: PatternShop>(
+fn answer_script<P: PatternShop, M: Mapper, R: Threads + Sync, S: Source, K: Sink, F: Shelf>(
+    rt: &R,
     alloc: Global,
     source: &mut S,
     sink: &mut K,
@@ -183,12 +188,13 @@ fn answer_script<M: Mapper, S: Source, K: Sink, F: Shelf, P: PatternShop>(
         return Status::NoMemory;
     };
     ends_are_answers();
-    converse_over(&mut talk, &mut block, source, sink, shelf, shop)
+    converse_over(rt, &mut talk, &mut block, source, sink, shelf, shop)
 }
 
 /// Reads the script from the source and answers it to the sink, over the files of the shelf.
-fn converse_over<M: Mapper, S: Source, K: Sink, F: Shelf, P: PatternShop>(
-    talk: &mut Talk<M>,
+fn converse_over<P: PatternShop, M: Mapper, R: Threads + Sync, S: Source, K: Sink, F: Shelf>(
+    rt: &R,
+    talk: &mut Talk<P, M>,
     block: &mut [u8],
     source: &mut S,
     sink: &mut K,
@@ -215,12 +221,13 @@ fn converse_over<M: Mapper, S: Source, K: Sink, F: Shelf, P: PatternShop>(
         sink,
         shelf,
     };
-    converse(talk, block, &mut objects, shop)
+    converse(rt, talk, block, &mut objects, shop)
 }
 
 /// Reads the script and answers it, up to its limit and one byte more.
-fn converse<M: Mapper, E: Edge, P: PatternShop>(
-    talk: &mut Talk<M>,
+fn converse<P: PatternShop, M: Mapper, R: Threads + Sync, E: Edge>(
+    rt: &R,
+    talk: &mut Talk<P, M>,
     block: &mut [u8],
     edge: &mut E,
     shop: &mut P,
@@ -243,24 +250,25 @@ fn converse<M: Mapper, E: Edge, P: PatternShop>(
             return Status::SourceFault;
         };
         if n == 0 {
-            return finish(talk, edge, shop);
+            return finish(rt, talk, edge, shop);
         }
-        match talk.take(&block[..n], edge, shop) {
+        match talk.take(rt, &block[..n], edge, shop) {
             Ok(Flow::On) => taken += n,
             Ok(Flow::Over) => return Status::Done,
             Err(error) => return status_of(error),
         }
     }
     match edge.read(&mut block[..1]) {
-        Ok(0) => finish(talk, edge, shop),
+        Ok(0) => finish(rt, talk, edge, shop),
         Ok(_) => Status::ScriptTooLong,
         Err(Failed) => Status::SourceFault,
     }
 }
 
 /// Answers what is left where the script has ended.
-fn finish<M: Mapper, E: Edge, P: PatternShop>(
-    talk: &mut Talk<M>,
+fn finish<P: PatternShop, M: Mapper, R: Threads + Sync, E: Edge>(
+    rt: &R,
+    talk: &mut Talk<P, M>,
     edge: &mut E,
     shop: &mut P,
 ) -> Status
@@ -272,7 +280,7 @@ fn finish<M: Mapper, E: Edge, P: PatternShop>(
     ensures counts { FinishCounts result (E.seen edge.old) (E.seen edge.new) }
     ensures names { E.names edge.new ≡ E.names edge.old }
 {
-    match talk.finish(edge, shop) {
+    match talk.finish(rt, edge, shop) {
         Ok(Flow::On) => Status::Done,
         Ok(Flow::Over) => Status::Done,
         Err(error) => status_of(error),

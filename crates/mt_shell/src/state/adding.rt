@@ -1,42 +1,57 @@
 //! `text` and `add`.
 
-ghost use Rattle.std.specs.Prelude.{◌≡◌, ℕ, List};
+ghost use Rattle.std.specs.Prelude.{◌≡◌, ℕ, List, length, OnOk, OnErr, IsErrOf};
 ghost use Rattle.mt_shelf_spec.specs.Files.{Files};
 ghost use Rattle.mt_text_spec.specs.Words.{IsName};
+ghost use Rattle.mt_text_spec.specs.Texts as texts;
 ghost use Rattle.mt_text_spec.specs.Texts.{ValidText};
+ghost use Rattle.mt_corpus_spec.specs.Images.{AreImagesBy};
+ghost use Rattle.mt_corpus_spec.specs.Decoded.{images_in};
+ghost use Rattle.mt_corpus.specs.Added.{MayBeKept, SomeMayBeKept};
 ghost use Rattle.mt_segment.specs.Mappers.{named};
 ghost use Rattle.mt_script_spec.specs.Commands as spec;
-ghost use Rattle.mt_session_spec.specs.World.{Holds};
-ghost use Rattle.mt_session_spec.specs.Settings.{Setting};
+ghost use Rattle.mt_session_spec.specs.World.{Holds, IsFull, with_text};
+ghost use Rattle.mt_session_spec.specs.Settings.{Setting, images_of};
 ghost use Rattle.mt_shell.specs.Fetches.{Finds, gained_of};
 ghost use Rattle.mt_shell.specs.Outsides.{beside};
 ghost use Rattle.mt_shell.specs.Serves.{Serves};
-ghost use Rattle.mt_shell.specs.Answers.{Answers, AnswersAlone, Stepped, KeepsText, ReadsText, over};
+ghost use Rattle.mt_shell.specs.Holding.{corpus_in};
+ghost use Rattle.mt_shell.specs.Answers.{Answers, AnswersAlone, Stepped, IsRich, KeepsText, ReadsText, over};
 
 use super::super::edge::Edge;
 use super::super::fetch::{Fetched, fetch};
 use super::State;
 use mt_answer::{Refusal, Reply, count_line, failed, refused};
 use mt_base::{Text, Value};
+use mt_grammar_counts::CountError;
 use mt_mapper::Mapper;
+use mt_pattern::PatternShop;
+use mt_segment::Segment;
 use mt_session_laws::held_is_valid;
 use mt_vertical::{TextError, no_text_with_fault, one_text, read_text, valid_texts};
 
-impl State {
+impl<P: PatternShop> State<P> {
     /// `text`: holds the text that the body is, unless its name is taken.
-    pub fn add_text<M: Mapper>(&mut self, name: &Value, body: &[u8], mappers: &mut Vec<M>) -> Reply
+    pub fn add_text<M: Mapper>(
+        &mut self,
+        name: &Value,
+        body: &[u8],
+        mappers: &mut Vec<M>,
+        shop: &mut P,
+    ) -> Reply
         ghost setting: { Setting }
         requires named { IsName name.now }
         requires serves { Serves setting (named M.called M.image mappers.old.items) self.old }
         ensures means { AnswersAlone setting self.old.held (spec.Text name.now body.now) result self.new.held }
         ensures serves { Serves setting (named M.called M.image mappers.new.items) self.new }
+        ensures shop { P.refused shop.new ≡ P.refused shop.old }
     {
         one_text();
         no_text_with_fault();
         if self.holds(name) {
             return refused(self.alloc, &Refusal::NameTaken(name.as_str()));
         }
-        self.read_text(name, body, mappers)
+        self.read_text(name, body, mappers, shop)
     }
 
     /// `add`: holds the text that the file is, unless its name is taken.
@@ -46,19 +61,21 @@ impl State {
         file: &Value,
         mappers: &mut Vec<M>,
         edge: &mut E,
+        shop: &mut P,
     ) -> Reply
         ghost setting: { Setting }
         requires named { IsName name.now }
         requires serves { Serves setting (named M.called M.image mappers.old.items) self.old }
         ensures means { (refused : List (List ℕ)) → Stepped setting self.old.held (spec.Add name.now file.now) result self.new.held (beside (E.seen edge.old) refused) (beside (E.seen edge.new) refused) }
         ensures serves { Serves setting (named M.called M.image mappers.new.items) self.new }
+        ensures shop { P.refused shop.new ≡ P.refused shop.old }
         ensures names { E.names edge.new ≡ E.names edge.old }
     {
         if self.holds(name) {
             return refused(self.alloc, &Refusal::NameTaken(name.as_str()));
         }
         let fetched = fetch(self.alloc, file.as_str(), edge);
-        self.take_file(name, file, fetched, mappers)
+        self.take_file(name, file, fetched, mappers, shop)
     }
 
     /// Does with the file what was found of it.
@@ -68,6 +85,7 @@ impl State {
         file: &Value,
         fetched: Fetched,
         mappers: &mut Vec<M>,
+        shop: &mut P,
     ) -> Reply
         ghost setting: { Setting }
         requires named { IsName name.now }
@@ -76,12 +94,13 @@ impl State {
         ensures means { (files : Files) → Finds files file.now fetched →
             Answers setting (over self.old.held files) (spec.Add name.now file.now) (gained_of file.now fetched) result (over self.new.held files) }
         ensures serves { Serves setting (named M.called M.image mappers.new.items) self.new }
+        ensures shop { P.refused shop.new ≡ P.refused shop.old }
     {
         one_text();
         no_text_with_fault();
         let alloc = self.alloc;
         match fetched {
-            Fetched::Whole(bytes) => self.read_text(name, bytes.as_slice(), mappers),
+            Fetched::Whole(bytes) => self.read_text(name, bytes.as_slice(), mappers, shop),
             Fetched::Absent => refused(alloc, &Refusal::NoSuchFile(file.as_str())),
             Fetched::TooLong => refused(alloc, &Refusal::FileTooLong(file.as_str())),
             Fetched::Failed => failed(alloc, file),
@@ -95,6 +114,7 @@ impl State {
         name: &Value,
         bytes: &[u8],
         mappers: &mut Vec<M>,
+        shop: &mut P,
     ) -> Reply
         ghost setting: { Setting }
         requires named { IsName name.now }
@@ -102,37 +122,82 @@ impl State {
         requires serves { Serves setting (named M.called M.image mappers.old.items) self.old }
         ensures means { ReadsText setting self.old.held name.now bytes.now result self.new.held }
         ensures serves { Serves setting (named M.called M.image mappers.new.items) self.new }
+        ensures shop { P.refused shop.new ≡ P.refused shop.old }
     {
         valid_texts();
         let Ok(own_name) = name.copy(self.alloc) else {
             return Reply::NoMemory;
         };
         match read_text(self.alloc, own_name, bytes, self.corpus.registry()) {
-            Ok(text) => self.keep_text(text, mappers),
+            Ok(text) => self.keep_text(text, mappers, shop),
             Err(TextError::Bad(line)) => refused(self.alloc, &Refusal::BadVertical(line)),
             Err(TextError::NoMemory) => Reply::NoMemory,
         }
     }
 
     /// Keeps a text behind the others, where there is room. The reply is made first.
-    fn keep_text<M: Mapper>(&mut self, text: Text, mappers: &mut Vec<M>) -> Reply
+    fn keep_text<M: Mapper>(&mut self, text: Text, mappers: &mut Vec<M>, shop: &mut P) -> Reply
         ghost setting: { Setting }
         requires free { Holds self.old.held text.name → ⊥ }
         requires valid { ValidText self.old.held.registry text }
         requires serves { Serves setting (named M.called M.image mappers.old.items) self.old }
         ensures means { KeepsText setting self.old.held text result self.new.held }
         ensures serves { Serves setting (named M.called M.image mappers.new.items) self.new }
+        ensures shop { P.refused shop.new ≡ P.refused shop.old }
     {
-        held_is_valid();
         if self.corpus.is_full(text.len()) {
             return refused(self.alloc, &Refusal::CorpusFull);
         }
         let Ok(line) = count_line(self.alloc, "ok", text.len() as u128) else {
             return Reply::NoMemory;
         };
-        match self.corpus.add(text, mappers) {
+        match self.keep_counted(text, mappers, shop) {
             Ok(()) => Reply::Lines(line),
-            Err(_) => Reply::NoMemory,
+            Err(CountError::TooManyRows) => refused(self.alloc, &Refusal::TooManyRows),
+            Err(CountError::NoMemory) => Reply::NoMemory,
+        }
+    }
+
+    /// Keeps a text for which there is room, counted where a grammar is held.
+    fn keep_counted<M: Mapper>(
+        &mut self,
+        text: Text,
+        mappers: &mut Vec<M>,
+        shop: &mut P,
+    ) -> Result<(), CountError>
+        ghost setting: { Setting }
+        requires free { Holds self.old.held text.name → ⊥ }
+        requires valid { ValidText self.old.held.registry text }
+        requires room { IsFull self.old.held.groups (length text.tokens) → ⊥ }
+        requires serves { Serves setting (named M.called M.image mappers.old.items) self.old }
+        ensures ok { OnOk result (self.new.held ≡ with_text self.old.held text) }
+        ensures poor { OnOk result (IsRich setting self.old.held text → ⊥) }
+        ensures rich { IsErrOf result CountError.TooManyRows → IsRich setting self.old.held text }
+        ensures err { OnErr result (self.new.held ≡ self.old.held) }
+        ensures serves { Serves setting (named M.called M.image mappers.new.items) self.new }
+        ensures shop { P.refused shop.new ≡ P.refused shop.old }
+    {
+        let segment = self.corpus.build(text, mappers)?;
+        self.keep_segment(segment, shop)
+    }
+
+    /// Keeps the segment of a text for which there is room, counted where a grammar is held.
+    fn keep_segment(&mut self, segment: Segment, shop: &mut P) -> Result<(), CountError>
+        ghost setting: { Setting }
+        requires may { SomeMayBeKept (corpus_in self.old) segment }
+        requires images { AreImagesBy (images_of setting) (images_in self.old.held.registry segment) }
+        requires taken { AreImagesBy (images_of setting) self.old.taken }
+        ensures ok { (text : texts.Text) → MayBeKept (corpus_in self.old) text segment → OnOk result (self.new.held ≡ with_text self.old.held text) }
+        ensures poor { (text : texts.Text) → MayBeKept (corpus_in self.old) text segment → OnOk result (IsRich setting self.old.held text → ⊥) }
+        ensures rich { (text : texts.Text) → MayBeKept (corpus_in self.old) text segment → IsErrOf result CountError.TooManyRows → IsRich setting self.old.held text }
+        ensures err { OnErr result (self.new.held ≡ self.old.held) }
+        ensures serves { (mappers : List (List ℕ × (List ℕ → List ℕ))) → Serves setting mappers self.old → Serves setting mappers self.new }
+        ensures shop { P.refused shop.new ≡ P.refused shop.old }
+    {
+        held_is_valid();
+        match &mut self.rules {
+            Some(rules) => rules.keep(self.alloc, &mut self.corpus, segment, shop),
+            None => Ok(self.corpus.keep(segment)?),
         }
     }
 }

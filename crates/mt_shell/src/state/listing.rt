@@ -13,10 +13,11 @@ ghost use Rattle.mt_shell.specs.Answers.{AnswersAlone};
 use super::State;
 use mt_answer::{Reply, count_line};
 use mt_base::{List, NoMemory};
+use mt_pattern::PatternShop;
 use mt_segment::Segment;
 use std::alloc::Global;
 
-impl State {
+impl<P: PatternShop> State<P> {
     /// `segments`: how many texts and tokens each group has.
     pub fn segments(&self) -> Reply
         ghost setting: { Setting }

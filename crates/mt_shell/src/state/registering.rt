@@ -19,12 +19,13 @@ use mt_answer::{Refusal, Reply, failed, ok_line, refused};
 use mt_base::{List, NoMemory, Registry, Value};
 use mt_corpus::{Corpus, keep_named};
 use mt_mapper::Mapper;
+use mt_pattern::PatternShop;
 use mt_registry::{RegistryError, one_registry_answer, read_registry};
 use mt_registry_laws::mappers_are_at_hand;
 use mt_session_laws::held_is_valid;
 use std::alloc::Global;
 
-impl State {
+impl<P: PatternShop> State<P> {
     /// `registry`: the registry of the file holds from now on, and of the mappers those that it names are kept.
     pub fn set_registry<M: Mapper, E: Edge>(
         &mut self,
@@ -45,11 +46,11 @@ impl State {
         self.take_registry(file, fetched, mappers)
     }
 
-    /// Whether a registry was accepted before, or a text is held. A grammar never is yet.
+    /// Whether a registry was accepted before, or a text or a grammar is held.
     fn is_late(&self) -> bool
         ensures { IsTrue result ↔ IsLate self.now.held }
     {
-        self.accepted || !self.corpus.is_empty()
+        self.accepted || self.rules.is_some() || !self.corpus.is_empty()
     }
 
     /// Does with the file what was found of it.
@@ -113,6 +114,7 @@ impl State {
         };
         keep_named(&registry, mappers);
         self.accepted = true;
+        self.rules = None;
         self.corpus = Corpus::new(self.alloc, registry);
         Reply::Lines(line)
     }

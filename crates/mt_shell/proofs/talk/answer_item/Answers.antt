@@ -45,5 +45,5 @@ returns-in-CutShort-clause-part g c =
     (λ world. record { none = refl; same = refl; says = refl }) c.as_bytes-in-CutShort.ensures.value (ap (λ (o : Outside). beside o (g.P.PatternShop.refused c.args.shop.now)) c.write_then-in-CutShort.ensures.only) h told))
     c.write_then-in-CutShort.ensures.part
 
-pub answer_command-requires-send-M : goal.answer_command-requires-send-M
-answer_command-requires-send-M g c = λ κs h. (h.0, (h.1.0, (h.1.1.0, (h.1.1.1, (c.requires.1.1.1.1.0, search rules)))))
+pub answer_command-requires : goal.answer_command-requires
+answer_command-requires g c = λ κs h. (h.0, (h.1.0, (h.1.1.0, (h.1.1.1.0, (h.1.1.1.1, (c.requires.1.1.1.1.1.0, (c.requires.1.1.1.1.1.1.0, search rules)))))))

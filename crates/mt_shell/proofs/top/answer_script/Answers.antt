@@ -18,8 +18,8 @@ returns-clause-one g c = λ done.
 pub returns-clause-complete : goal.returns-clause-complete
 returns-clause-complete g c = λ source sink input h short. complete_by c.converse_over.result input _ _ c.converse_over.ensures.good c.converse_over.ensures.faults c.converse_over.ensures.is_long h source sink short
 
-pub converse_over-requires-send-M : goal.converse_over-requires-send-M
-converse_over-requires-send-M g c = λ κs h. (
+pub converse_over-requires : goal.converse_over-requires
+converse_over-requires g c = λ κs h. (
   h.0,
   (
     h.1.0,
@@ -30,14 +30,20 @@ converse_over-requires-send-M g c = λ κs h. (
         (
           h.1.1.1.1.0,
           (
-            h.1.1.1.1.1,
+            h.1.1.1.1.1.0,
             (
-              c.type_bounds.send-M,
+              h.1.1.1.1.1.1,
               (
-                c.in-Ok-new.ensures.reader,
+                c.type_bounds.send-M,
                 (
-                  c.in-Ok-new.ensures.state,
-                  (serves_first (named g.M.Mapper.called g.M.Mapper.image c.in-Ok-new.talk.session.mappers.items) c.in-Ok-new.talk.session.state c.in-Ok-new.ensures.state, search (rules, c.in-Ok.ensures.len, c.in-Ok.ensures.items, c.deref_mut.ensures)),
+                  c.type_bounds.sync-R,
+                  (
+                    c.in-Ok-new.ensures.reader,
+                    (
+                      c.in-Ok-new.ensures.state,
+                      (serves_first (named g.M.Mapper.called g.M.Mapper.image c.in-Ok-new.talk.session.mappers.items) c.in-Ok-new.talk.session.state c.in-Ok-new.ensures.state, search (rules, c.in-Ok.ensures.len, c.in-Ok.ensures.items, c.deref_mut.ensures)),
+                    ),
+                  ),
                 ),
               ),
             ),

@@ -10,15 +10,15 @@ use Rattle.mt_shell.proofs.top.converse.Goals as goal
 pub loop-taken-init : goal.loop-taken-init
 loop-taken-init g c =
     let start = beside (g.E.Edge.seen c.args.edge.now) (g.P.PatternShop.refused c.args.shop.now) in
-    let none = ap (λ (w : Waiting). w.bytes) c.requires.1.1.1.1.1.0 in
+    let none = ap (λ (w : Waiting). w.bytes) c.requires.1.1.1.1.1.1.1.0 in
     record {
       took = λ input h. took_first input start h;
-      reads = λ input h written k. at_first input written c.args.talk.now.reader.bytes c.args.talk.now.session.state.held start h k none (ap (λ (k : Kept). k.held) c.requires.1.1.1.1.1.1.0);
-      serves = c.requires.1.1.1.1.1.1.1.0;
-      ended = ap (λ (w : Waiting). w.ended) c.requires.1.1.1.1.1.0;
+      reads = λ input h written k. at_first input written c.args.talk.now.reader.bytes c.args.talk.now.session.state.held start h k none (ap (λ (k : Kept). k.held) c.requires.1.1.1.1.1.1.1.1.0);
+      serves = c.requires.1.1.1.1.1.1.1.1.1.0;
+      ended = ap (λ (w : Waiting). w.ended) c.requires.1.1.1.1.1.1.1.0;
       rest = rw none no_line;
       within = omega arith;
-      block = c.requires.1.1.1.1.1.1.1.1;
+      block = c.requires.1.1.1.1.1.1.1.1.1.1;
       faults = record { source = refl; sink = refl };
       names = refl;
     }

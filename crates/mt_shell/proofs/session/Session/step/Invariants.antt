@@ -17,3 +17,12 @@ ghost-answer g a = g.setting
 
 abbrev pub ghost-segments : goal.ghost-segments
 ghost-segments g a = g.setting
+
+abbrev pub ghost-set_grammar : goal.ghost-set_grammar
+ghost-set_grammar g a = g.setting
+
+abbrev pub ghost-set_rules : goal.ghost-set_rules
+ghost-set_rules g a = g.setting
+
+abbrev pub ghost-remove : goal.ghost-remove
+ghost-remove g a = g.setting

@@ -16,4 +16,4 @@ returns-clause-means g c =
     (rw c.as_str-2.ensures at c.fetch-fetched.ensures.finds) (rw c.as_str-2.ensures at c.fetch-fetched.ensures.gained) c.take_file.ensures.means
 
 pub take_file-requires-send-M : goal.take_file-requires-send-M
-take_file-requires-send-M g c = λ κs h. (h, (c.requires.1.1.0, search rules))
+take_file-requires-send-M g c = λ κs h. (h.0, (h.1.0, (h.1.1, (c.requires.1.1.1.1.0, search rules))))

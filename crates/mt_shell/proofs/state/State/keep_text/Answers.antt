@@ -1,9 +1,8 @@
-use Rattle.std.proofs.Common.{None, refl, ap, drop, length}
-use Rattle.mt_segment.specs.Mappers.{named}
+use Rattle.std.proofs.Common.{Err, refl, ap, ◌∙◌}
 use Rattle.mt_shell.specs.Serves.{Kept}
-use Rattle.mt_shell.proofs.Adding.{no_room, line_is, no_rules, text_kept, kept_not, kept_no_more, kept_valid, serves_more, serves_same, mappers_there, mappers_back}
+use Rattle.mt_shell.specs.Holding.{grammar_of}
+use Rattle.mt_shell.proofs.Adding.{no_room, room_for, line_is, text_kept, too_rich, kept_not}
 use Rattle.mt_shell.proofs.Meanings.{not_true}
-use Rattle.mt_shell.proofs.state.State.keep_text.Goals.{in-Ok-add, in-Err}
 use Rattle.mt_shell.proofs.state.State.keep_text.Goals as goal
 
 pub returns-then-is_full-clause-means : goal.returns-then-is_full-clause-means
@@ -11,33 +10,43 @@ returns-then-is_full-clause-means g c =
     no_room g.setting c.args.self.now.held c.args.text c.refused.result (rw (ap (λ (k : Kept). k.held.groups) c.self.view_is, c.len.ensures) at (c.if-is_full.ensures.0 refl)) c.refused.ensures
 
 pub returns-in_default-clause-means : goal.returns-in_default-clause-means
-returns-in_default-clause-means g c = kept_not g.setting c.args.self.now.held c.args.text
+returns-in_default-clause-means g c = kept_not g.setting c.args.self.now.held c.args.self.now.held c.args.text refl
 
-pub add-requires-clause-mappers : goal.add-requires-clause-mappers
-add-requires-clause-mappers g c = λ κs within. rw c.deref_mut.ensures.value
-    (mappers_there g.M.Mapper.called g.M.Mapper.image c.args.mappers.now.items g.setting c.args.self.now c.self.inside.accepted None c.self.inside.corpus c.self.view_is c.requires.1.1.1.1)
+pub keep_counted-requires-send-M : goal.keep_counted-requires-send-M
+keep_counted-requires-send-M g c = λ κs h. (
+  h.0,
+  (
+    h.1.0,
+    (
+      h.1.1,
+      (
+        c.requires.1.1.1.0,
+        (
+          c.requires.1.1.1.1.0,
+          (
+            c.requires.1.1.1.1.1.0,
+            (
+              room_for c.args.self.now c.self.inside.accepted (grammar_of c.self.inside.rules) c.self.inside.corpus c.args.text c.len.result c.self.view_is c.len.ensures (λ full. not_true (c.if-is_full.ensures.1 full)),
+              c.requires.1.1.1.1.1.1,
+            ),
+          ),
+        ),
+      ),
+    ),
+  ),
+)
 
-pub invariant_of-self : goal.invariant_of-self
-invariant_of-self g c = elim c.match-add.branch [
-  | in-Ok-add w ↦ kept_valid c.held_is_valid.ensures c.args.self.now c.self.inside.accepted None c.self.inside.corpus c.add.new.self c.args.text c.len.result c.self.view_is c.self.invariant
-      c.requires.1.1.1.0 c.requires.1.1.0 c.len.ensures (λ full. not_true (c.if-is_full.ensures.1 full)) c.add.ensures.registry w.in-Ok-add.ensures.ok
-  | in-Err w ↦ rw w.in-Err.ensures.err c.self.invariant
-]
+pub returns-in-Ok-keep_counted-clause-means : goal.returns-in-Ok-keep_counted-clause-means
+returns-in-Ok-keep_counted-clause-means g c =
+    text_kept g.setting c.args.self.now.held c.keep_counted.new.self.held c.args.text c.in-Ok.line
+    (room_for c.args.self.now c.self.inside.accepted (grammar_of c.self.inside.rules) c.self.inside.corpus c.args.text c.len.result c.self.view_is c.len.ensures (λ full. not_true (c.if-is_full.ensures.1 full)))
+    c.in-Ok-keep_counted.ensures.poor c.in-Ok-keep_counted.ensures.ok (line_is c.len-2.result c.args.text c.in-Ok.line c.in-Ok.ensures c.len-2.ensures)
+
+pub returns-in-Err-TooManyRows-clause-means : goal.returns-in-Err-TooManyRows-clause-means
+returns-in-Err-TooManyRows-clause-means g c =
+    too_rich g.setting c.args.self.now.held c.keep_counted.new.self.held c.args.text c.refused-in-Err-TooManyRows.result
+    (room_for c.args.self.now c.self.inside.accepted (grammar_of c.self.inside.rules) c.self.inside.corpus c.args.text c.len.result c.self.view_is c.len.ensures (λ full. not_true (c.if-is_full.ensures.1 full)))
+    (c.keep_counted.ensures.rich (c.in-Err-TooManyRows.is ∙ ap Err c.in-Err-TooManyRows.field-0-is)) c.in-Err-TooManyRows.ensures.err c.refused-in-Err-TooManyRows.ensures
 
 pub returns-clause-means : goal.returns-clause-means
-returns-clause-means g c = elim c.match-add.branch [
-  | in-Ok-add w ↦ text_kept g.setting c.args.self.now c.self.inside.accepted None c.self.inside.corpus c.add.new.self c.args.text c.len.result c.in-Ok.line c.match-add.result c.self.view_is c.len.ensures
-      (λ full. not_true (c.if-is_full.ensures.1 full)) (no_rules g.setting c.args.self.now c.self.inside.accepted c.self.inside.corpus c.args.text c.self.view_is) c.add.ensures.registry w.in-Ok-add.ensures.ok (line_is c.len-2.result c.args.text c.in-Ok.line c.in-Ok.ensures c.len-2.ensures) w.result-is
-  | in-Err w ↦ kept_no_more g.setting c.args.self.now c.self.inside.accepted None c.self.inside.corpus c.add.new.self c.args.text c.match-add.result c.self.view_is w.in-Err.ensures.err w.result-is
-]
-
-pub returns-clause-serves : goal.returns-clause-serves
-returns-clause-serves g c =
-    let same = mappers_back g.M.Mapper.called g.M.Mapper.image c.deref_mut.result.now c.add.new.mappers (drop (length c.add.new.mappers) c.args.mappers.now.items) c.args.mappers.now.len c.deref_mut.ensures.len c.add.ensures.same in
-    let mappers = rw c.deref_mut.ensures.value at same in
-    elim c.match-add.branch [
-      | in-Ok-add w ↦ serves_more g.setting (named g.M.Mapper.called g.M.Mapper.image c.args.mappers.now.items) _ c.args.self.now c.self.inside.accepted None c.self.inside.corpus c.add.new.self c.self.view_is mappers c.add.ensures.registry
-          (rw c.deref_mut.ensures.value at c.add.ensures.taken) c.requires.1.1.1.1
-      | in-Err w ↦ serves_same g.setting (named g.M.Mapper.called g.M.Mapper.image c.args.mappers.now.items) _ c.args.self.now c.self.inside.accepted None c.self.inside.corpus c.add.new.self c.self.view_is mappers w.in-Err.ensures.err
-          c.requires.1.1.1.1
-    ]
+returns-clause-means g c = kept_not g.setting c.args.self.now.held c.keep_counted.new.self.held c.args.text c.in-Err-NoMemory.ensures.err

@@ -19,4 +19,4 @@ pub returns-in-Err-NoMemory-clause-means : goal.returns-in-Err-NoMemory-clause-m
 returns-in-Err-NoMemory-clause-means g c = unread g.setting c.args.self.now.held c.args.name.now c.args.bytes.now
 
 pub keep_text-requires-send-M : goal.keep_text-requires-send-M
-keep_text-requires-send-M g c = λ κs h. (h, (c.requires.1.0, search rules))
+keep_text-requires-send-M g c = λ κs h. (h.0, (h.1.0, (h.1.1, (c.requires.1.1.1.0, search rules))))

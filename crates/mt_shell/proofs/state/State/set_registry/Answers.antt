@@ -16,4 +16,4 @@ returns-clause-means g c =
     (rw c.as_str.ensures at c.fetch-fetched.ensures.finds) (rw c.as_str.ensures at c.fetch-fetched.ensures.gained) c.take_registry.ensures.means
 
 pub take_registry-requires-send-M : goal.take_registry-requires-send-M
-take_registry-requires-send-M g c = λ κs h. (h, (c.requires.1.1.0, search rules))
+take_registry-requires-send-M g c = λ κs h. (h.0, (h.1.0, (h.1.1, (c.requires.1.1.1.1.0, search rules))))

@@ -4,4 +4,4 @@ use Rattle.mt_shell.specs.Serves.{Kept}
 use Rattle.mt_shell.proofs.state.State.valid.Goals as goal
 
 pub returns : goal.returns
-returns c = subst (λ (k : Kept). ValidHeld k.held) c.self.view_is c.self.invariant
+returns g c = subst (λ (k : Kept). ValidHeld k.held) c.self.view_is c.self.invariant.held

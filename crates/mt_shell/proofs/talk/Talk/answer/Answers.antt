@@ -1,3 +1,4 @@
+use denote.Param.Send.{param_sync, arg_sync, given_sync}
 use Rattle.std.proofs.Common.{[], refl, ◌∙◌, rules}
 use Rattle.mt_outside.specs.Told.{Told}
 use Rattle.mt_shell.specs.Outsides.{beside}
@@ -9,7 +10,7 @@ use Rattle.mt_shell.proofs.talk.Talk.answer.Goals as goal
 pub loop-next-init : goal.loop-next-init
 loop-next-init g c = record {
   told = λ written h. none_yet c.args.self.now.reader.bytes c.args.self.now.session.state.held _ written h;
-  serves = c.requires.1.1.1.1.1;
+  serves = c.requires.1.1.1.1.1.1.1;
   ended = refl;
   source = record { left = refl; faults = refl };
   faults = refl;
@@ -68,20 +69,26 @@ returns-in_err-answer_item-clause-part g c =
     c.in_err-answer_item.ensures.part in
     always c.from_residual.result told
 
-pub answer_item-requires-send-M : goal.answer_item-requires-send-M
-answer_item-requires-send-M g c = λ κs h. (
+pub answer_item-requires : goal.answer_item-requires
+answer_item-requires g c = λ κs h. (
   h.0,
   (
     h.1.0,
     (
       h.1.1.0,
       (
-        h.1.1.1,
+        h.1.1.1.0,
         (
-          c.requires.1.1.1.1.0,
-          search (
-            rules,
-            gives_said c.loop-next.self.reader.ended c.loop-next.self.reader.bytes c.next_command-next.new.self.bytes c.next_command-next.result c.next_command-next.ensures.gives,
+          h.1.1.1.1,
+          (
+            c.requires.1.1.1.1.1.0,
+            (
+              param_sync 2 _ (arg_sync _ _ g.row.R (given_sync 3 g.row.R c.requires.1.1.1.1.1.1.0)),
+              search (
+                rules,
+                gives_said c.loop-next.self.reader.ended c.loop-next.self.reader.bytes c.next_command-next.new.self.bytes c.next_command-next.result c.next_command-next.ensures.gives,
+              ),
+            ),
           ),
         ),
       ),
