@@ -63,12 +63,14 @@ def generated(path, name, seed, tokens):
         out.write(("</s>\n" if tokens else "") + "</doc>\n")
 
 
-def many_texts(path, texts, tokens):
-    """Writes a script of so many texts of a few tokens, each a segment of its own."""
+def many_texts(path, texts, tokens, begin="", front=()):
+    """Writes a script of so many texts of a few tokens, each a segment of its own, behind these lines. Each text has these lines before its tokens."""
     draw = draws(5)
     with open(path, "w", encoding="utf-8") as out:
+        out.write(begin)
         for number in range(texts):
-            out.write(f"text t{number} {tokens}\n")
+            out.write(f"text t{number} {len(front) + tokens}\n")
+            out.writelines(f"{line}\n" for line in front)
             for _ in range(tokens):
                 lemma = (next(draw) % 1000) * (next(draw) % 1000) // 1000
                 out.write(f"l{lemma}\t{'NJVD'[lemma % 4]}\tl{lemma}\n")
@@ -79,3 +81,36 @@ def asked(path, begin, questions):
     with open(begin, "rb") as front, open(path, "wb") as out:
         out.write(front.read())
         out.writelines(f"{question}\n".encode() for question in questions)
+
+
+# A sketch grammar for generated texts: six relations, one with a gap, one that a third word names, and one of single words with a pattern of lemmas.
+GRAMMAR = """*STRUCTLIMIT s
+*DEFAULTATTR tag
+*DUAL
+=modifier/modifies
+2:"J" 1:"N"
+*DUAL
+=object/object_of
+1:"V" []{0,2} 2:"N"
+*DUAL
+=subject/subject_of
+2:"N" [tag=="D"]{0,1} 1:"V"
+*SYMMETRIC
+=beside
+1:"N" [tag=="D"] 2:"N"
+*TRINARY
+=by_%s
+1:"V" 3:"D" 2:"N"
+*UNARY
+=common
+1:[tag=="N" & lemma="l[0-9]{1,2}"]
+"""
+
+# Lemmas of generated texts from the most frequent one to rare ones, nouns, verbs and adjectives.
+LEMMAS = [f"l{number}" for number in (0, 1, 2, 4, 10, 16, 40, 50, 61, 100, 150, 200, 350, 400, 501, 550, 600, 750, 800, 900)]
+
+
+def grammar(path):
+    """Writes the sketch grammar."""
+    with open(path, "w", encoding="utf-8") as out:
+        out.write(GRAMMAR)
