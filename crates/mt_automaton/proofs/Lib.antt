@@ -5,7 +5,6 @@ pub mod Images
 pub mod Turned
 pub mod Followed
 pub mod Somehow
-pub mod Spots
 pub mod Unions
 pub mod Grouped
 pub mod Led

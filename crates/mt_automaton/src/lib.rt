@@ -19,8 +19,6 @@ mod pool;
 mod reach;
 mod rows;
 mod rows_of_text;
-#[cfg(test)]
-mod tests;
 mod view;
 mod window;
 

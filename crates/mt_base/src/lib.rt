@@ -12,8 +12,6 @@ mod registry;
 mod span;
 mod steps;
 mod strings;
-#[cfg(test)]
-mod tests;
 mod text;
 mod tokens;
 mod value;

@@ -7,8 +7,6 @@
 mod script;
 mod source;
 mod standard;
-#[cfg(test)]
-mod tests;
 mod text;
 mod vertical;
 

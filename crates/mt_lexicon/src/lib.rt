@@ -29,6 +29,3 @@ pub fn are_shared() {
     shared::<LexiconBuilder>();
     shared::<LexiconMerger>();
 }
-
-#[cfg(test)]
-mod tests;

@@ -9,8 +9,6 @@ mod cut;
 mod fold;
 mod mapper;
 mod mapping;
-#[cfg(test)]
-mod tests;
 
 pub use cut::{Prefix, Suffix};
 pub use fold::Fold;

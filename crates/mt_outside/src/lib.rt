@@ -11,8 +11,6 @@ mod memory_shelf;
 mod shelf;
 mod sink;
 mod source;
-#[cfg(test)]
-mod tests;
 
 pub use memory_shelf::MemoryShelf;
 pub use shelf::{Loaded, Shelf, ShelfError};

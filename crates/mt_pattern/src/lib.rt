@@ -12,8 +12,6 @@ mod known;
 mod plain;
 mod regexes;
 mod shop;
-#[cfg(test)]
-mod tests;
 
 pub use build::{IdsError, WholePattern, ids};
 pub use fussy::FussyShop;

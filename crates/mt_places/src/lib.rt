@@ -20,6 +20,3 @@ pub fn are_shared() {
     shared::<Places>();
     shared::<Below>();
 }
-
-#[cfg(test)]
-mod tests;

@@ -40,6 +40,3 @@ pub fn are_shared() {
     shared::<CodeError>();
     shared::<DecodeError>();
 }
-
-#[cfg(test)]
-mod tests;

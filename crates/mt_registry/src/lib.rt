@@ -16,8 +16,6 @@ mod faults;
 mod form;
 mod laws;
 mod lines;
-#[cfg(test)]
-mod tests;
 
 pub use error::{BadLine, RegistryCause, RegistryError};
 use faults::first_fault;

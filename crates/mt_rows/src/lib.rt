@@ -22,6 +22,3 @@ pub fn are_shared() {
     shared::<RowList>();
     shared::<EvalError>();
 }
-
-#[cfg(test)]
-mod tests;

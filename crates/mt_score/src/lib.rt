@@ -5,8 +5,6 @@ mod dice;
 mod fraction;
 pub mod laws;
 mod sixteenths;
-#[cfg(test)]
-mod tests;
 mod wide;
 
 pub use dice::{CONSTANTS, log_dice};

@@ -16,8 +16,6 @@ mod laws;
 mod lines;
 mod reader;
 mod tags;
-#[cfg(test)]
-mod tests;
 mod values;
 
 pub use error::{BadLine, TextCause, TextError};

@@ -9,9 +9,6 @@ use clap::error::ErrorKind;
 use clap::{Arg, ArgAction, ArgMatches, Command, Error};
 use std::alloc::{AllocError, Global};
 
-#[cfg(test)]
-mod tests;
-
 /// What the words of the command line say.
 #[derive(Clone, Copy, Debug, PartialEq, Eq, Drop)]
 pub struct Options {

@@ -1,35 +1,8 @@
 //! Hostile lines and small texts, with what the rules make of them.
 
-use super::{BadLine, TextCause, TextError, read_text};
-use mt_base::{Registry, Text, Value};
+use mt_base::{Registry, StructSpan, Text, Tokens, Value};
+use mt_vertical::{BadLine, TextCause, TextError, read_text};
 use std::alloc::{AllocError, Global};
-
-/// A text in one line: its tokens, and behind `;` its instances, as kind, begin, end and values.
-fn shown(alloc: Global, text: &Text) -> Result<String, AllocError> {
-    let mut line = String::new(alloc);
-    let tokens = text.tokens();
-    for place in 0..tokens.len() {
-        line.push_str("(")?;
-        for column in 0..tokens.columns() {
-            push_value(&mut line, tokens.value(place, column))?;
-        }
-        line.push_str(")")?;
-    }
-    for span in text.structs().as_slice() {
-        let (kind, begin, end) = (span.kind(), span.begin(), span.end());
-        let place = format!(in alloc; ";{kind}:{begin}-{end}")?;
-        line.push_str(place.as_str())?;
-        push_values(&mut line, span.values().as_slice())?;
-    }
-    Ok(line)
-}
-
-fn push_values(line: &mut String, values: &[Value]) -> Result<(), AllocError> {
-    for value in values {
-        push_value(line, value.as_str())?;
-    }
-    Ok(())
-}
 
 fn push_value(line: &mut String, value: &str) -> Result<(), AllocError> {
     line.push_str("[")?;
@@ -37,26 +10,57 @@ fn push_value(line: &mut String, value: &str) -> Result<(), AllocError> {
     line.push_str("]")
 }
 
+/// The tokens, each in brackets.
+fn push_tokens(line: &mut String, tokens: &Tokens) -> Result<(), AllocError> {
+    for place in 0..tokens.len() {
+        line.push_str("(")?;
+        for column in 0..tokens.columns() {
+            push_value(line, tokens.value(place, column))?;
+        }
+        line.push_str(")")?;
+    }
+    Ok(())
+}
+
+/// An instance behind `;`, as kind, begin, end and values.
+fn push_instance(line: &mut String, span: &StructSpan) -> Result<(), AllocError> {
+    write!(line, ";{}:{}-{}", span.kind(), span.begin(), span.end())?;
+    for value in span.values().as_slice() {
+        push_value(line, value.as_str())?;
+    }
+    Ok(())
+}
+
+/// A text in one line: its tokens and its instances.
+fn shown(alloc: Global, text: &Text) -> Result<String, AllocError> {
+    let mut line = String::new(alloc);
+    push_tokens(&mut line, text.tokens())?;
+    for span in text.structs().as_slice() {
+        push_instance(&mut line, span)?;
+    }
+    Ok(line)
+}
+
+/// The text that these bytes are read as under the standard registry.
+fn read(alloc: Global, bytes: &[u8]) -> Result<Text, TextError> {
+    let registry = Registry::standard(alloc)?;
+    read_text(alloc, Value::new(alloc, "t1")?, bytes, &registry)
+}
+
 /// Whether the bytes are read as the text that is shown so.
 fn is_read(alloc: Global, bytes: &[u8], wanted: &str) -> bool {
-    let (Ok(registry), Ok(name)) = (Registry::standard(alloc), Value::new(alloc, "t1")) else {
+    let Ok(text) = read(alloc, bytes) else {
         return false;
     };
-    match read_text(alloc, name, bytes, &registry) {
-        Ok(text) => match shown(alloc, &text) {
-            Ok(line) => line.as_str() == wanted && text.name().as_str() == "t1",
-            Err(_) => false,
-        },
+    match shown(alloc, &text) {
+        Ok(line) => line.as_str() == wanted && text.name().as_str() == "t1",
         Err(_) => false,
     }
 }
 
 /// Whether the bytes are refused for this line and cause.
 fn is_refused(alloc: Global, bytes: &[u8], line: usize, cause: TextCause) -> bool {
-    let (Ok(registry), Ok(name)) = (Registry::standard(alloc), Value::new(alloc, "t1")) else {
-        return false;
-    };
-    match read_text(alloc, name, bytes, &registry) {
+    match read(alloc, bytes) {
         Ok(_) => false,
         Err(error) => error == TextError::Bad(BadLine { line, cause }),
     }
@@ -123,27 +127,24 @@ fn reads_texts(rt: HostRuntime) {
 
 #[test]
 fn refuses_the_first_bad_line(rt: HostRuntime) {
-    let rows: [(&[u8], usize); 4] = [
-        (b"a\n\xff\n", 2),
-        (b"<!--\xff-->", 1),
-        (b"<p n='\xff'>", 1),
-        (b"\n \xff", 2),
+    let long = [b'z'; 1025];
+    let rows: [(&[u8], usize, TextCause); 5] = [
+        (b"a\n\xff\n", 2, TextCause::NotUtf8),
+        (b"<!--\xff-->", 1, TextCause::NotUtf8),
+        (b"<p n='\xff'>", 1, TextCause::NotUtf8),
+        (b"\n \xff", 2, TextCause::NotUtf8),
+        (&long, 1, TextCause::ValueTooLong),
     ];
-    for (body, line) in rows {
-        assert!(rt;
-            is_refused(rt.alloc(), body, line, TextCause::NotUtf8),
-            "at {body:?}"
-        );
+    for (body, line, cause) in rows {
+        assert!(rt; is_refused(rt.alloc(), body, line, cause), "at {body:?}");
     }
+    assert!(rt; read(rt.alloc(), &long[..1024]).is_ok());
 }
 
+/// What is not kept may be of any length.
 #[test]
-fn refuses_what_would_be_kept(rt: HostRuntime) {
+fn reads_long_fields_that_are_not_kept(rt: HostRuntime) {
     let mut line = [b'z'; 1030];
-    assert!(rt; is_refused(rt.alloc(), &line[..1025], 1, TextCause::ValueTooLong));
-    assert!(rt; !is_refused(rt.alloc(), &line[..1024], 1, TextCause::ValueTooLong));
-    line[0] = b'\t';
-    line[1] = b'\t';
-    line[2] = b'\t';
+    line[..3].fill(b'\t');
     assert!(rt; is_read(rt.alloc(), &line, "([][][])"));
 }

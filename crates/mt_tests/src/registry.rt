@@ -1,8 +1,8 @@
-//! Registry files and what they are read as.
+//! Registry files that are refused, each for its first fault.
 
-use super::{BadLine, RegistryCause, RegistryError, read_registry};
 use mt_base::{List, NoMemory, Registry, Value};
-use std::alloc::{AllocError, Global};
+use mt_registry::{BadLine, RegistryCause, RegistryError, read_registry};
+use std::alloc::Global;
 use std::process::Abort;
 use std::test::Fail;
 
@@ -139,70 +139,4 @@ fn error_in(read: &Result<Registry, RegistryError>) -> Option<RegistryError> {
         Ok(_) => None,
         Err(error) => Some(*error),
     }
-}
-
-#[test]
-fn reads_what_is_declared(rt: HostRuntime) -> Result<(), Fail> {
-    let cases: [(&[u8], &str); 10] = [
-        (b"ATTRIBUTE w", "w / 0"),
-        (
-            b"# mine\nATTRIBUTE \"w\"\nLANGUAGE \"Czech\" {\nX y\n}\n",
-            "w / 0",
-        ),
-        (
-            b"\tATTRIBUTE  w\t\r\n\r\n#\xff\nX \"\"\nX \"\nX x{\n",
-            "w / 0",
-        ),
-        (
-            b"ATTRIBUTE w\nX \"a\" {\nSTRUCTURE s\nATTRIBUTE w {\n}\n}\n",
-            "w / 0",
-        ),
-        (b"ATTRIBUTE w {\nATTRIBUTE v\nFROMATTR v\n}\n", "w / 0"),
-        (
-            b"ATTRIBUTE w\nSTRUCTURE s {\nATTRIBUTE w {\nDYNAMIC nope\n}\nATTRIBUTE id\n}\nSTRUCTURE t\n",
-            "w / s(w id) t() / 0",
-        ),
-        (
-            b"ATTRIBUTE lc {\nDYNAMIC fold\nFROMATTR w\n}\nATTRIBUTE w\n",
-            "lc=fold:1 w / 0",
-        ),
-        (b"WSATTR w\nATTRIBUTE a\nATTRIBUTE w\n", "a w / 1"),
-        (
-            b"ATTRIBUTE a\nATTRIBUTE lemma\nATTRIBUTE lempos\n",
-            "a lemma lempos / 2",
-        ),
-        (b"ATTRIBUTE a\nATTRIBUTE lemma\n", "a lemma / 1"),
-    ];
-    let mappers = mappers_at_hand(rt.alloc())?;
-    for (file, want) in cases {
-        let registry = read_registry(rt.alloc(), file, &mappers)?;
-        assert_eq!(rt; shown(rt.alloc(), &registry)?.as_str(), want, "at {file:?}");
-    }
-    Ok(())
-}
-
-/// The attributes, the structures where there are some, and the number of the attribute that sketches count.
-fn shown(alloc: Global, registry: &Registry) -> Result<String, AllocError> {
-    let mut out = String::new(alloc);
-    for attr in registry.attrs().as_slice() {
-        out.push_str(attr.name().as_str())?;
-        if let Some(base) = attr.base() {
-            write!(out, "={}:{base}", attr.mapper().as_str())?;
-        }
-        out.push_str(" ")?;
-    }
-    if !registry.kinds().is_empty() {
-        out.push_str("/ ")?;
-    }
-    for kind in registry.kinds().as_slice() {
-        out.push_str(kind.name().as_str())?;
-        out.push_str("(")?;
-        for (i, attr) in kind.attrs().as_slice().iter().enumerate() {
-            out.push_str(if i == 0 { "" } else { " " })?;
-            out.push_str(attr.as_str())?;
-        }
-        out.push_str(") ")?;
-    }
-    write!(out, "/ {}", registry.ws_attr())?;
-    Ok(out)
 }

@@ -1,4 +1,4 @@
-use Rattle.mt_postings.proofs.tests.a_thousand_positions.Given as goal
+use Rattle.mt_tests.proofs.postings.a_thousand_positions.Given as goal
 
 abbrev pub ghosts-sought : goal.ghosts-sought
 ghosts-sought g a = record { name = a.blank.name; parts = a.blank.parts }

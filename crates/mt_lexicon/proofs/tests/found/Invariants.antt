@@ -1,5 +1,0 @@
--- A ledger for this call alone.
-use Rattle.mt_lexicon.proofs.tests.found.Given as goal
-
-abbrev pub ghosts-found_from : goal.ghosts-found_from
-ghosts-found_from a = record { name = a.blank.name; parts = a.blank.parts }
