@@ -21,7 +21,7 @@ use Rattle.mt_ranks.specs.Bests.{AreDistinct, comes_before, IsBest}
 
 -- ---- the order
 
-weighed_weak : IsStrictWeakOrder comes_before
+pub weighed_weak : IsStrictWeakOrder comes_before
 weighed_weak = ranks_by weighed_total (λ (w : Weighed). w)
 
 -- one of two comes before the other, where their words differ
@@ -35,14 +35,14 @@ before_other a b h d = by (weighed_cmp b a) refl
 
 -- ---- lists in which none comes before an earlier one
 
-abbrev NotBefore : Weighed → Weighed → Type 0
+abbrev pub NotBefore : Weighed → Weighed → Type 0
 NotBefore a b = comes_before b a ≡ false
 
 abbrev IsUp : List Weighed → Type 0
 IsUp [] = Unit {0}
 IsUp (x ∷ xs) = AllByRecursion (NotBefore x) xs × IsUp xs
 
-all_weaker : {P Q : Weighed → Type 0} → ((c : Weighed) → P c → Q c) → (xs : List Weighed) → AllByRecursion P xs → AllByRecursion Q xs
+pub all_weaker : {P Q : Weighed → Type 0} → ((c : Weighed) → P c → Q c) → (xs : List Weighed) → AllByRecursion P xs → AllByRecursion Q xs
 all_weaker f [] h = tt
 all_weaker f (x ∷ xs) h = (f x h.0, all_weaker f xs h.1)
 
@@ -53,13 +53,13 @@ up_from_far (x ∷ xs) far = (recursion_from_All (NotBefore x) xs (λ k d l. far
 up_from_sorted : (xs : List Weighed) → IsSortedBy comes_before xs → IsUp xs
 up_from_sorted xs up = up_from_far xs (λ i j d l m. sorted_far comes_before weighed_weak xs up i j d (omega arith) m)
 
+pub all_append : (c : Weighed) (us vs : List Weighed) → AllByRecursion (NotBefore c) us → AllByRecursion (NotBefore c) vs → AllByRecursion (NotBefore c) (us ++ vs)
+all_append c [] vs p q = q
+all_append c (u ∷ us) vs p q = (p.0, all_append c us vs p.1 q)
+
 up_append : (xs ys : List Weighed) → IsUp xs → IsUp ys → AllByRecursion (λ a. AllByRecursion (NotBefore a) ys) xs → IsUp (xs ++ ys)
 up_append [] ys h g across = g
 up_append (x ∷ xs) ys h g across = (all_append x xs ys h.0 across.0, up_append xs ys h.1 g across.1)
-  where
-    all_append : (c : Weighed) (us vs : List Weighed) → AllByRecursion (NotBefore c) us → AllByRecursion (NotBefore c) vs → AllByRecursion (NotBefore c) (us ++ vs)
-    all_append c [] vs p q = q
-    all_append c (u ∷ us) vs p q = (p.0, all_append c us vs p.1 q)
 
 -- with values that differ, each comes before all later ones
 strict_from_up : (xs : List Weighed) → IsUp xs → AreDistinct xs → IsStrictlySortedBy weighed_cmp xs
@@ -123,7 +123,7 @@ distinct_moved xs ys moved h =
     let equal : IsEquivalence bytes_eq = nat_list_eq_equiv in
     IsDistinct-IsPermutation (λ (a b : Weighed). bytes_eq a.word b.word) (λ a b. equal.symm a.word b.word) xs ys moved h
 
-none_left : (xs ys : List Weighed) (n : ℕ) → length (xs ++ ys) ≡ n → length xs ≡ n → ys ≡ []
+pub none_left : (xs ys : List Weighed) (n : ℕ) → length (xs ++ ys) ≡ n → length xs ≡ n → ys ≡ []
 none_left xs [] n e f = refl
 none_left xs (y ∷ ys) n e f = absurd (omega (arith, length-append xs (y ∷ ys)))
 
@@ -162,7 +162,7 @@ top_of_best max items kept top distinct best moved up =
 pub no_best : (max : ℕ) (kept : List Weighed) → kept ≡ [] → IsBest max [] kept
 no_best max kept e = rw e (record { rest = []; same = IsPermutation-refl []; count = omega arith; above = tt })
 
-all_known : (P : Weighed → Type 0) (xs : List Weighed) → ((c : Weighed) → P c) → AllByRecursion P xs
+pub all_known : (P : Weighed → Type 0) (xs : List Weighed) → ((c : Weighed) → P c) → AllByRecursion P xs
 all_known P [] f = tt
 all_known P (x ∷ xs) f = (f x, all_known P xs f)
 

@@ -20,3 +20,8 @@ pub record IsBest (max : ℕ) (seen kept : List Weighed) : Type 0 where
   pub same : IsPermutation seen (kept ++ rest)
   pub count : length kept ≡ min max (length seen)
   pub above : AllByRecursion (λ a. AllByRecursion (λ b. comes_before b a ≡ false) rest) kept
+
+-- at most so many words, and which they are
+pub record Choice : Type 0 where
+  pub max : ℕ
+  pub words : List Weighed

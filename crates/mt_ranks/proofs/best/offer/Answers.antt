@@ -6,17 +6,17 @@ use Rattle.mt_ranks.proofs.Tops.{best_pushed, best_of_none, best_passed, best_re
 use Rattle.mt_ranks.proofs.best.offer.Goals as goal
 
 pub returns-then-len-max-clause-best : goal.returns-then-len-max-clause-best
-returns-then-len-max-clause-best c = λ seen best. best_pushed c.args.max seen (heap_items c.args.kept.now) (heap_items c.push.new.self) c.args.word best (omega (arith, c.args.kept.now.data.ok)) c.in_ok-push.ensures.permutation
+returns-then-len-max-clause-best g c = λ seen best. best_pushed c.args.max seen (heap_items c.args.kept.now) (heap_items c.push.new.self) c.args.word best (omega (arith, c.args.kept.now.data.ok)) c.in_ok-push.ensures.permutation
 
 pub returns-then-le-clause-best : goal.returns-then-le-clause-best
-returns-then-le-clause-best c = λ seen best.
+returns-then-le-clause-best g c = λ seen best.
     best_passed c.args.max seen (heap_items c.args.kept.now) c.args.word c.in-Some.last.now best (omega (arith, c.args.kept.now.data.ok)) (le_passes c.in-Some.last.now c.args.word (sym c.le.ensures ∙ c.if-le.true)) (c.in-Some.ensures.greatest c.requires)
 
 pub returns-in-None-clause-best : goal.returns-in-None-clause-best
-returns-in-None-clause-best c = λ seen best. best_of_none c.args.max seen (heap_items c.args.kept.now) c.args.word best (omega (arith, c.args.kept.now.data.ok)) (none_there (length (heap_items c.args.kept.now)) (λ l. c.in-None.ensures.variant.1 (omega (arith, c.args.kept.now.data.ok))))
+returns-in-None-clause-best g c = λ seen best. best_of_none c.args.max seen (heap_items c.args.kept.now) c.args.word best (omega (arith, c.args.kept.now.data.ok)) (none_there (length (heap_items c.args.kept.now)) (λ l. c.in-None.ensures.variant.1 (omega (arith, c.args.kept.now.data.ok))))
 
 pub returns-in_ok-push-in-Some-pop-clause-best : goal.returns-in_ok-push-in-Some-pop-clause-best
-returns-in_ok-push-in-Some-pop-clause-best c = λ seen best.
+returns-in_ok-push-in-Some-pop-clause-best g c = λ seen best.
     let full : c.args.max ≤ length (heap_items c.args.kept.now) = omega (arith, c.args.kept.now.data.ok) in
     let some : 0 < length (heap_items c.args.kept.now) = omega (arith, c.args.kept.now.data.ok, c.in-Some-pop.ensures.len) in
     let last = c.in-Some-pop.field-0 in
