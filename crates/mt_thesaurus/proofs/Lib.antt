@@ -5,4 +5,5 @@ pub mod Others
 pub mod Alikes
 pub mod Scoring
 pub mod Joining
+pub mod Choosing
 pub mod Telling

@@ -1,14 +1,18 @@
 //! The words that are like a lemma.
 
 ghost use Rattle.std.specs.Prelude.{◌≡◌, ℕ, ◌+◌, ◌*◌, ◌^◌, ◌<◌, length, map, slice_index, IfOk};
-ghost use Rattle.std.specs.List.{All};
-ghost use Rattle.mt_thesaurus.specs.Told.{AreOthers, similar_at, weighed_of};
+ghost use Rattle.std.specs.List.{All, AllZip, Contains};
+ghost use Rattle.mt_word_sketch_spec.specs.Ranks.{FirstRanked};
+ghost use Rattle.mt_word_sketch_spec.specs.Order.{ranked_of};
+ghost use Rattle.rayon.specs.Lists.{chunks_of};
+ghost use Rattle.mt_ranks.specs.Bests.{AreDistinct, IsBest};
+ghost use Rattle.mt_thesaurus.specs.Told.{AreOthers, similar_at, weighed_all};
 
 use indexmap::IndexSet;
 use mt_base::{List, NoMemory, Value};
-use mt_ranks::RankedWord;
+use mt_ranks::{Chosen, RankedWord, first_of_all};
 use rayon::prelude::*;
-use std::alloc::{AllocError, Global};
+use std::alloc::Global;
 use std::thread::Threads;
 
 /// A word by its number, and the fraction by which it is ranked.
@@ -33,74 +37,92 @@ pub(crate) fn others_of(alloc: Global, parts: &[u128], lemma: usize) -> Result<V
     Ok(numbers)
 }
 
-/// From so many words on, their fractions are found by several threads: starting these takes longer than few fractions do.
-const MANY: usize = 1 << 16;
+/// The best of so many words are chosen at a time: threads take such parts, since starting them takes longer than few words do.
+const PART: usize = 1 << 14;
 
-/// The fractions of words, by several threads where there are many words.
-pub(crate) fn fractions<R: Threads + Sync>(
+/// The first `max` of words by their fractions. No others are copied than the best of each part.
+pub(crate) fn first_ranked<R: Threads + Sync>(
     rt: &R,
     alloc: Global,
+    words: &IndexSet<Value>,
     numbers: &[u32],
     parts: &[u128],
     sums: &[u64],
     lemma: u32,
-) -> Result<Vec<Similar>, AllocError>
-    requires parts { All (λ word. word < length parts.now) numbers.now }
-    requires sums { All (λ word. word < length sums.now) numbers.now }
+    max: usize,
+) -> Result<List<RankedWord>, NoMemory>
+    requires below { All (λ word. word < length words.now.keys) numbers.now }
+    requires parts { length parts.now ≡ length words.now.keys }
+    requires sums { length sums.now ≡ length words.now.keys }
     requires lemma { lemma < length sums.now }
-    ensures { IfOk result (λ all. all.items ≡ map (similar_at parts.now sums.now lemma) numbers.now) }
+    requires some { 0 < slice_index sums.now lemma }
+    ensures { AreDistinct (weighed_all words.now.keys parts.now sums.now lemma numbers.now)
+        → IfOk result (λ shown. FirstRanked ranked_of (Contains (weighed_all words.now.keys parts.now sums.now lemma numbers.now)) max shown) }
 {
-    if numbers.len() < MANY {
-        fractions_by_one(alloc, numbers, parts, sums, lemma)
-    } else {
-        fractions_by_all(rt, alloc, numbers, parts, sums, lemma)
-    }
+    let lists = best_of_each(rt, alloc, words, numbers, parts, sums, lemma, max)?;
+    first_of_all(alloc, lists, max)
 }
 
-/// The fractions of words, one after another.
-fn fractions_by_one(
-    alloc: Global,
-    numbers: &[u32],
-    parts: &[u128],
-    sums: &[u64],
-    lemma: u32,
-) -> Result<Vec<Similar>, AllocError>
-    requires parts { All (λ word. word < length parts.now) numbers.now }
-    requires sums { All (λ word. word < length sums.now) numbers.now }
-    requires lemma { lemma < length sums.now }
-    ensures { IfOk result (λ all. all.items ≡ map (similar_at parts.now sums.now lemma) numbers.now) }
-{
-    numbers
-        .iter()
-        .map(|word| fraction(*word, parts, sums, lemma))
-        .collect(alloc)
-}
-
-/// The same by many threads.
-fn fractions_by_all<R: Threads + Sync>(
+/// The best `max` of each part of the words, by several threads where there are several parts.
+fn best_of_each<R: Threads + Sync>(
     rt: &R,
     alloc: Global,
+    words: &IndexSet<Value>,
     numbers: &[u32],
     parts: &[u128],
     sums: &[u64],
     lemma: u32,
-) -> Result<Vec<Similar>, AllocError>
-    requires parts { All (λ word. word < length parts.now) numbers.now }
-    requires sums { All (λ word. word < length sums.now) numbers.now }
+    max: usize,
+) -> Result<Vec<List<RankedWord>>, NoMemory>
+    requires below { All (λ word. word < length words.now.keys) numbers.now }
+    requires parts { length parts.now ≡ length words.now.keys }
+    requires sums { length sums.now ≡ length words.now.keys }
     requires lemma { lemma < length sums.now }
-    ensures { IfOk result (λ all. all.items ≡ map (similar_at parts.now sums.now lemma) numbers.now) }
+    requires some { 0 < slice_index sums.now lemma }
+    ensures { IfOk result (λ lists. AllZip (IsBest max) (map (weighed_all words.now.keys parts.now sums.now lemma) (chunks_of (2 ^ 14) numbers.now)) lists.items) }
 {
-    numbers
-        .par_iter()
+    let lists: Result<Vec<List<RankedWord>>, NoMemory> = numbers
+        .par_chunks(PART)
         .map(
-            |word: &u32| -> Similar
-                requires part { word.now < length parts.now }
-                requires sum { word.now < length sums.now }
+            |part: &[u32]| -> Result<List<RankedWord>, NoMemory>
+                requires below { All (λ word. word < length words.now.keys) part.now }
+                requires parts { length parts.now ≡ length words.now.keys }
+                requires sums { length sums.now ≡ length words.now.keys }
                 requires lemma { lemma < length sums.now }
-                ensures { result ≡ similar_at parts.entry.now sums.entry.now lemma word.now }
-            { fraction(*word, parts, sums, lemma) },
+                requires some { 0 < slice_index sums.now lemma }
+                ensures { IfOk result (IsBest max (weighed_all words.entry.now.keys parts.entry.now sums.entry.now lemma part.now)) }
+            { best_of(alloc, words, part, parts, sums, lemma, max) },
         )
-        .collect(rt, alloc)
+        .collect(rt, alloc)?;
+    lists
+}
+
+/// The best `max` of words.
+fn best_of(
+    alloc: Global,
+    words: &IndexSet<Value>,
+    numbers: &[u32],
+    parts: &[u128],
+    sums: &[u64],
+    lemma: u32,
+    max: usize,
+) -> Result<List<RankedWord>, NoMemory>
+    requires below { All (λ word. word < length words.now.keys) numbers.now }
+    requires parts { length parts.now ≡ length words.now.keys }
+    requires sums { length sums.now ≡ length words.now.keys }
+    requires lemma { lemma < length sums.now }
+    requires some { 0 < slice_index sums.now lemma }
+    ensures { IfOk result (IsBest max (weighed_all words.now.keys parts.now sums.now lemma numbers.now)) }
+{
+    let mut chosen = Chosen::new(alloc, max);
+    for number in numbers {
+        let similar = fraction(*number, parts, sums, lemma);
+        let Some(word) = words.get_index(*number as usize) else {
+            unreachable!()
+        };
+        chosen.offer(RankedWord::borrowed(word.as_str(), similar.part, similar.whole))?;
+    }
+    chosen.copied(alloc)
 }
 
 /// The fraction of a word.
@@ -116,25 +138,4 @@ fn fraction(word: u32, parts: &[u128], sums: &[u64], lemma: u32) -> Similar
         part: parts[word as usize],
         whole: 800 * sum,
     }
-}
-
-/// The words with their fractions.
-pub(crate) fn ranked(
-    alloc: Global,
-    words: &IndexSet<Value>,
-    all: &[Similar],
-) -> Result<List<RankedWord>, NoMemory>
-    requires below { All (λ similar. similar.word < length words.now.keys) all.now }
-    requires some { All (λ similar. 0 < similar.whole) all.now }
-    ensures { IfOk result (λ ranked. ranked ≡ map (weighed_of words.now.keys) all.now) }
-{
-    let mut ranked = List::with_capacity(alloc, all.len())?;
-    for similar in all {
-        let Some(word) = words.get_index(similar.word as usize) else {
-            unreachable!()
-        };
-        let word = word.copy(alloc)?;
-        ranked.push(RankedWord::new(word, similar.part, similar.whole))?;
-    }
-    Ok(ranked)
 }

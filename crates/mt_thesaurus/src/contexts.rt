@@ -7,14 +7,13 @@ ghost use Rattle.mt_text_spec.specs.Texts as texts;
 ghost use Rattle.mt_text_spec.specs.Queries as queries;
 ghost use Rattle.mt_match_spec.specs.Values.{Images};
 ghost use Rattle.mt_counts.specs.Counted.{Counted};
-ghost use Rattle.mt_ranks.specs.Bests.{AreDistinct};
 ghost use Rattle.mt_sketch.specs.Told.{AreWithin, frequencies_of};
 ghost use Rattle.mt_triples.specs.CountsOf.{AreCountsOf};
 ghost use Rattle.mt_word_sketch_spec.specs.Frequencies.{Frequencies};
 ghost use Rattle.mt_thesaurus.specs.Scores.{AreScoresOf};
-ghost use Rattle.mt_thesaurus.specs.Told.{AreAlike, IsSmall, IsThesaurusReply};
+ghost use Rattle.mt_thesaurus.specs.Told.{AreFirstAlike, IsSmall, IsThesaurusReply};
 
-use super::alike::{fractions, others_of, ranked};
+use super::alike::{first_ranked, others_of};
 use super::fresh::{placed_of, words_of};
 use super::grouped::Grouped;
 use super::lines::{number_line, put_words};
@@ -22,7 +21,7 @@ use super::placed::turned_all;
 use super::sums::{parts_of, sums_of};
 use indexmap::IndexSet;
 use mt_base::{List, NoMemory, Value};
-use mt_ranks::{RankedWord, first};
+use mt_ranks::RankedWord;
 use mt_triples::Triples;
 use std::alloc::Global;
 use std::marker::Model;
@@ -68,7 +67,7 @@ impl Contexts {
     }
 
     /// The lines of the thesaurus of a lemma: the first `max` words that share a context with it. It costs by how many words stand in the lemma's contexts, and by how
-    /// many words there are; it sorts no more than are shown. Where the scores are those of counts, the reply is that to `thes` over any texts of which the counts are.
+    /// many words there are; it sorts no more than are shown, and copies few others. Where the scores are those of counts, the reply is that to `thes` over any texts of which the counts are.
     pub fn thesaurus<R: Threads + Sync>(
         &self,
         rt: &R,
@@ -79,41 +78,40 @@ impl Contexts {
         ensures { (images : Images) (registry : registries.Registry) (grammar : queries.Grammar) (corpus : Items texts.Text) (counted : Counted) → AreCountsOf images registry grammar corpus counted
             → AreScoresOf (frequencies_of counted) self.now → IfOk result (IsThesaurusReply images registry grammar corpus lemma.now max) }
     {
-        let words = self.alike(rt, alloc, lemma)?;
-        let shown = first(alloc, words, max as usize)?;
+        let shown = self.alike(rt, alloc, lemma, max as usize)?;
         let mut reply = number_line(alloc, shown.len())?;
         put_words(shown.as_slice(), &mut reply)?;
         Ok(reply)
     }
 
-    /// All words that are like a lemma.
+    /// The first `max` words that are like a lemma.
     fn alike<R: Threads + Sync>(
         &self,
         rt: &R,
         alloc: Global,
         lemma: &str,
+        max: usize,
     ) -> Result<List<RankedWord>, NoMemory>
-        ensures are { (f : Frequencies) → AreScoresOf f self.now → IfOk result (AreAlike f lemma.now) }
-        ensures distinct { IfOk result AreDistinct }
+        ensures are { (f : Frequencies) → AreScoresOf f self.now → IfOk result (AreFirstAlike f lemma.now max) }
         ensures small { IfOk result (All IsSmall) }
     {
         let lemma = Value::new(alloc, lemma)?;
         match self.words.get_index_of(&lemma) {
-            Some(number) => self.alike_at(rt, alloc, number),
+            Some(number) => self.alike_at(rt, alloc, number, max),
             None => Ok(List::new(alloc)),
         }
     }
 
-    /// All words that are like the one with a number.
+    /// The first `max` words that are like the one with a number.
     fn alike_at<R: Threads + Sync>(
         &self,
         rt: &R,
         alloc: Global,
         lemma: usize,
+        max: usize,
     ) -> Result<List<RankedWord>, NoMemory>
         requires { lemma < length self.now.words }
-        ensures are { (f : Frequencies) (word : Items ℕ) → slice_get self.now.words lemma ≡ Some word → AreScoresOf f self.now → IfOk result (AreAlike f word) }
-        ensures distinct { IfOk result AreDistinct }
+        ensures are { (f : Frequencies) (word : Items ℕ) → slice_get self.now.words lemma ≡ Some word → AreScoresOf f self.now → IfOk result (AreFirstAlike f word max) }
         ensures small { IfOk result (All IsSmall) }
     {
         if self.sums[lemma] == 0 {
@@ -122,7 +120,15 @@ impl Contexts {
         let own = self.by_word.of(lemma as u32);
         let parts = parts_of(alloc, self.words.len(), own, &self.by_context)?;
         let numbers = others_of(alloc, &parts, lemma)?;
-        let all = fractions(rt, alloc, &numbers, &parts, &self.sums, lemma as u32)?;
-        ranked(alloc, &self.words, &all)
+        first_ranked(
+            rt,
+            alloc,
+            &self.words,
+            &numbers,
+            &parts,
+            &self.sums,
+            lemma as u32,
+            max,
+        )
     }
 }

@@ -1,9 +1,8 @@
 use Rattle.std.proofs.Common.{◌≡◌, ◌∙◌, Some, slice_get, sym, ap, subst}
 use Rattle.mt_counts.proofs.Numbering.{found_in, not_in}
 use Rattle.mt_thesaurus.specs.Scores.{Scores}
-use Rattle.mt_thesaurus.specs.Told.{AreAlike}
 use Rattle.mt_thesaurus.proofs.Alikes.{none_unknown}
-use Rattle.mt_thesaurus.proofs.Telling.{none_distinct}
+use Rattle.mt_thesaurus.proofs.Telling.{none_first}
 use Rattle.mt_thesaurus.proofs.contexts.Contexts.alike.Goals as goal
 
 pub returns-in-Some-clause-are : goal.returns-in-Some-clause-are
@@ -19,8 +18,5 @@ returns-clause-are g c =
     let lemma = c.in_ok-lemma.lemma in
     let none = not_in lemma c.self.inside.words.keys c.in-None.ensures.index in
     λ f are.
-    subst (AreAlike f c.args.lemma.now) (sym c.new-in-None.ensures)
-    (none_unknown f c.args.self.now are c.args.lemma.now (λ n h. none n (ap (λ (s : Scores). slice_get s.words n) c.self.view_is ∙ h ∙ ap Some (sym c.in_ok-lemma.ensures))))
-
-pub returns-clause-distinct : goal.returns-clause-distinct
-returns-clause-distinct g c = none_distinct c.new-in-None.result c.new-in-None.ensures
+    none_first f c.args.lemma.now c.args.max c.new-in-None.result
+    (none_unknown f c.args.self.now are c.args.lemma.now (λ n h. none n (ap (λ (s : Scores). slice_get s.words n) c.self.view_is ∙ h ∙ ap Some (sym c.in_ok-lemma.ensures)))) c.new-in-None.ensures
