@@ -2,6 +2,7 @@ pub mod Distinct
 pub mod Exact
 pub mod Growing
 pub mod Mapped
+pub mod Rising
 pub mod Splitting
 pub mod Gaining
 pub mod Filling

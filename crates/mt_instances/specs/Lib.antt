@@ -5,6 +5,7 @@ pub mod Filled
 pub mod Gains
 pub mod Given
 pub mod Entries
+pub mod Rising
 pub mod Gathered
 pub mod Counting
 pub mod Collected

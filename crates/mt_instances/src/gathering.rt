@@ -35,7 +35,7 @@ pub(crate) struct Gathered {
     pub(crate) fills: Fills,
 }
 
-/// Adds the instances that rows of a query of the relation give.
+/// Adds the instances that rows of a query of the relation give. Where there are no rows, its names get no numbers.
 pub(crate) fn add_rows(
     words: &Words,
     gathered: &mut Gathered,
@@ -49,6 +49,9 @@ pub(crate) fn add_rows(
     ensures given { OnOk result ((images : Images) (registry : registries.Registry) (text : texts.Text) → IsText images registry text words.now.lexicon.now words.now.numbers.now
         → Gains gathered.old.instances.given gathered.new.instances.given (GivenBy images registry text relation.now rows.now)) }
 {
+    if rows.is_empty() {
+        return Ok(());
+    }
     let heading = heading_of(words, gathered, relation)?;
     add_each(words, gathered, heading, rows)
 }

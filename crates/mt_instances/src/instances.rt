@@ -8,27 +8,32 @@ ghost use Rattle.mt_instances.specs.Entries.{instance_of};
 
 use crate::entry::{Entry, keep_distinct};
 use crate::names::Names;
+use crate::ranks::Ranks;
 use mt_base::{NoMemory, Value};
 use std::alloc::Global;
 use std::marker::Model;
 
-/// Instances in the order in which they came, as entries under numbered names. It is seen as the list of the names and that of the instances.
+/// Instances in the order in which they came, as entries under numbered names. As long as the entries of each name come in ascending order, each of them is there once.
+/// It is seen as the list of the names and that of the instances.
 #[derive(Drop)]
 pub(crate) struct Instances {
     names: Names,
     entries: Vec<Entry>,
+    ranks: Ranks,
+    rising: bool,
 }
 
 impl Model for Instances {
     ghost use Rattle.std.specs.Prelude.{map, length};
     ghost use Rattle.mt_instances.specs.Named.{Named};
-    ghost use Rattle.mt_instances.specs.Entries.{AreNamed, instance_of};
+    ghost use Rattle.mt_instances.specs.Entries.{instance_of};
+    ghost use Rattle.mt_instances.specs.Rising.{AreKept};
 
     ghost Value = { Named };
 
     ghost view = { λ s. record { names = s.names; given = map (instance_of s.names) s.entries.items } };
 
-    ghost invariant = { λ s. AreNamed (length s.names) s.entries.items };
+    ghost invariant = { λ s. AreKept (length s.names) s.entries.items s.ranks s.rising };
 }
 
 impl Instances {
@@ -40,6 +45,8 @@ impl Instances {
         Instances {
             names: Names::new(alloc),
             entries: Vec::new(alloc),
+            ranks: Ranks::new(alloc),
+            rising: true,
         }
     }
 
@@ -67,19 +74,27 @@ impl Instances {
         ensures ok { OnOk result (self.new.given ≡ self.old.given ++ instance_of self.old.names entry ∷ []) }
         ensures err { OnErr result (self.new.given ≡ self.old.given) }
     {
+        let above = self.ranks.raise(&entry)?;
         match self.entries.push(entry) {
-            Ok(()) => Ok(()),
+            Ok(()) if above => Ok(()),
+            Ok(()) => {
+                self.rising = false;
+                Ok(())
+            }
             Err(_) => Err(NoMemory),
         }
     }
 
-    /// Keeps each instance once, in any order. It takes no memory.
+    /// Keeps each instance once, in any order. It takes no memory, and no time where the entries of each name came in ascending order.
     pub(crate) fn settle(&mut self)
         ensures names { self.new.names ≡ self.old.names }
         ensures once { EachOnce self.new.given }
         ensures same { HaveSameItems self.old.given self.new.given }
     {
         self.names.len();
+        if self.rising {
+            return;
+        }
         keep_distinct(&mut self.entries);
     }
 
@@ -105,5 +120,7 @@ impl Instances {
         ensures given { self.new.given ≡ [] }
     {
         self.entries.clear();
+        self.ranks.clear();
+        self.rising = true;
     }
 }

@@ -14,6 +14,7 @@ mod instances;
 mod laws;
 mod names;
 mod numbers;
+mod ranks;
 mod words;
 
 pub use collector::Collector;
