@@ -9,4 +9,6 @@ pub mod Listed
 pub mod Places
 pub mod Texts
 pub mod Collocated
-pub mod Tiny
+pub mod Amounts
+pub mod Begun
+pub mod Reaches

@@ -1,5 +1,5 @@
 -- Distances from a span.
-use Rattle.std.specs.Prelude.{ℕ, ℤ, pos, negsuc, ◌+◌, ◌-◌, ◌≤◌, List, ◌++◌}
+use Rattle.std.specs.Prelude.{ℕ, true, ℤ, pos, negsuc, ◌+◌, ◌-◌, ◌≤◌, List, ◌++◌}
 use Rattle.mt_report_spec.specs.Near.{Near, numbers_from}
 use Rattle.mt_frequencies.specs.declared.distances.Distances.{Distances}
 use Rattle.mt_frequencies.specs.declared.distances.Near as own
@@ -34,4 +34,4 @@ right_size (negsuc n) = 0
 
 -- what is looked at near a span
 abbrev pub near_of : own.Near → Near
-near_of near = record { attr = near.attr; distances = distances_of near.distances; behind_last = near.behind_last }
+near_of near = record { attr = near.attr; distances = distances_of near.distances; behind_last = true }

@@ -3,4 +3,4 @@ pub mod Distances
 pub mod Known
 pub mod Tokens
 pub mod Collocates
-pub mod Tiny
+pub mod Amounts

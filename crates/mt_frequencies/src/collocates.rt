@@ -84,7 +84,6 @@ pub fn collocations(
     let near = Near {
         attr,
         distances: window(from, to),
-        behind_last: true,
     };
     let mut tally = Tally::new(alloc);
     count_spans(alloc, segments, live, spans, &near, &mut tally)?;

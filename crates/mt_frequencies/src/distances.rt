@@ -2,11 +2,9 @@
 
 ghost use Rattle.std.specs.Prelude.{◌≡◌, ◌+◌, ◌-◌, ◌^◌, ◌<◌, ◌≤◌, ◌≤ℤ◌, [], ◌∷◌, ◌++◌};
 ghost use Rattle.std.specs.List.{range_with_len};
-ghost use Rattle.mt_frequencies.specs.Distances.{AreDistances, distances_of, left_size, near_of, right_size};
+ghost use Rattle.mt_frequencies.specs.Distances.{AreDistances, distances_of, left_size, right_size};
 ghost use Rattle.mt_report_spec.specs.Near as near;
-ghost use Rattle.mt_report_spec.specs.Near.{last_token, places_at};
-
-use mt_base::Span;
+ghost use Rattle.mt_report_spec.specs.Near.{places_at};
 
 /// Distances before a span's first token, from one on and before another, and distances behind a token of it, likewise.
 #[derive(Clone, Copy, Debug, Drop)]
@@ -26,49 +24,11 @@ pub(crate) struct Places {
     pub(crate) behind_to: u32,
 }
 
-/// What is looked at near a span: the values of an attribute so far before its first token, and so far behind its last one, or behind its first one too.
+/// What is looked at near a span: the values of an attribute so far before its first token, and so far behind its last one.
 #[derive(Clone, Copy, Debug, Drop)]
 pub(crate) struct Near {
     pub(crate) attr: u16,
     pub(crate) distances: Distances,
-    pub(crate) behind_last: bool,
-}
-
-impl Near {
-    /// The token from which distances to the right count.
-    pub(crate) fn last(&self, span: &Span) -> u32
-        requires { span.now.begin < span.now.end }
-        ensures { result ≡ last_token (near_of self.now) span.now }
-    {
-        if self.behind_last {
-            span.end() - 1
-        } else {
-            span.begin()
-        }
-    }
-}
-
-/// The one distance, before the span's first token where it is negative.
-pub(crate) fn at(distance: i32) -> Distances
-    ensures distances { distances_of result ≡ distance ∷ [] }
-    ensures valid { AreDistances result }
-{
-    let size = distance.unsigned_abs();
-    if distance < 0 {
-        Distances {
-            before_from: size,
-            before_to: size + 1,
-            behind_from: 1,
-            behind_to: 1,
-        }
-    } else {
-        Distances {
-            before_from: 1,
-            before_to: 1,
-            behind_from: size,
-            behind_to: size + 1,
-        }
-    }
 }
 
 /// The distances from the first to the last of them, without 0.
@@ -86,7 +46,7 @@ pub(crate) fn window(from: i32, to: i32) -> Distances
 }
 
 /// How far to the left a distance leads.
-fn to_left(distance: i32) -> u32
+pub(crate) fn to_left(distance: i32) -> u32
     ensures { result ≡ left_size distance }
 {
     if distance < 0 {
@@ -97,7 +57,7 @@ fn to_left(distance: i32) -> u32
 }
 
 /// How far to the right it leads.
-fn to_right(distance: i32) -> u32
+pub(crate) fn to_right(distance: i32) -> u32
     ensures { result ≡ right_size distance }
 {
     if distance > 0 {

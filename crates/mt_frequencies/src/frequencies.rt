@@ -11,10 +11,9 @@ ghost use Rattle.mt_report_spec.specs.Held.{LieInSome, StandFor};
 ghost use Rattle.mt_report_spec.specs.Counts.{FrequencyText, frequency_cmp};
 ghost use Rattle.mt_frequencies.specs.Tallies.{counts_in, frequency_of, is_counted};
 
-use super::distances::{Near, at};
+use super::begins::count_begins;
 use super::entry::Frequency;
 use super::lines::put_list;
-use super::spans::count_spans;
 use super::tally::Tally;
 use mt_base::{List, NoMemory, Span};
 use mt_segment::Segment;
@@ -71,13 +70,8 @@ pub fn frequency(
         → OnOk result ((lines : Items (Items ℕ)) × FrequencyText images registry (corpus_of groups) spans.now attr distance lines × (out.new ≡ out.old ++ flat_map closed lines)) }
     ensures err { OnErr result (out.new ≡ out.old) }
 {
-    let near = Near {
-        attr,
-        distances: at(distance),
-        behind_last: false,
-    };
     let mut tally = Tally::new(alloc);
-    count_spans(alloc, segments, live, spans, &near, &mut tally)?;
+    count_begins(alloc, segments, live, spans, attr, distance, &mut tally)?;
     let all = ranked(alloc, &tally)?;
     put_list(all.as_slice(), out)
 }

@@ -4,17 +4,17 @@
 //! Values are counted by their numbers. Contracts speak of the texts for which the segments stand (`StandFor` of `mt_report_spec`).
 #![tactic(auto)]
 
+mod begins;
 mod collocate;
 mod collocates;
 mod counting;
 mod distances;
 mod entry;
 mod frequencies;
+mod joining;
 mod lines;
 mod spans;
 mod tally;
-#[cfg(test)]
-mod tests;
 mod tokens;
 
 pub use collocates::collocations;

@@ -66,7 +66,7 @@ fn count_span(
     let (from, behind) = segment.text_bounds(text);
     let places = near
         .distances
-        .places(span.begin(), near.last(span), behind - from);
+        .places(span.begin(), span.end() - 1, behind - from);
     count_places(
         alloc,
         segment,

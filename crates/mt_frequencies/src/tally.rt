@@ -1,10 +1,12 @@
 //! How many spans have each value near them.
 
-ghost use Rattle.std.specs.Prelude.{◌≡◌, ℕ, ◌-◌, ◌^◌, ◌<◌, ◌≤◌, List as Items, [], ◌∷◌, length, slice_get, Some, IfOk, OnOk};
+ghost use Rattle.std.specs.Prelude.{◌≡◌, ℕ, ◌+◌, ◌-◌, ◌^◌, ◌<◌, ◌≤◌, List as Items, [], ◌∷◌, length, slice_get, Some, IfOk, OnOk};
 ghost use Rattle.std.specs.List.{IsDistinct};
 ghost use Rattle.std.specs.Cmp.Lexicographic.{pointwise};
 ghost use Rattle.std.specs.Prelude.{nat_eq};
 ghost use Rattle.mt_frequencies.specs.Tallies as spec;
+ghost use Rattle.mt_frequencies.specs.Amounts as amounts;
+ghost use Rattle.mt_frequencies.specs.Amounts.{IsRaised};
 ghost use Rattle.mt_frequencies.specs.Tallies.{Begins, IsAbsent, IsCounted, counts_in};
 
 use indexmap::IndexSet;
@@ -119,6 +121,31 @@ impl Tally {
         self.len();
         let place = number as usize;
         self.counts[place] = counted(self.counts[place], span);
+    }
+
+    /// Counts so many spans more for the value with this number. It takes no memory.
+    pub(crate) fn raise(&mut self, number: u32, more: u32)
+        requires number { number < length self.old.values }
+        requires few { (value : Items ℕ) → slice_get self.old.values number ≡ Some value → (counts_in self.old value).last + more < 2 ^ 32 }
+        ensures values { self.new.values ≡ self.old.values }
+        ensures raised { (value : Items ℕ) → slice_get self.old.values number ≡ Some value → IsRaised (counts_in self.old) value more (counts_in self.new) }
+    {
+        self.len();
+        let place = number as usize;
+        self.counts[place] = raised(self.counts[place], more);
+    }
+}
+
+/// A count after so many spans more.
+fn raised(count: Count, more: u32) -> Count
+    requires few { count.last + more < 2 ^ 32 }
+    requires order { count.spans ≤ count.last }
+    ensures raised { result ≡ amounts.raised more count }
+    ensures order { result.spans ≤ result.last }
+{
+    Count {
+        spans: count.spans + more,
+        last: count.last + more,
     }
 }
 
