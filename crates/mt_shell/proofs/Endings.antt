@@ -427,10 +427,10 @@ pub error_ends : {setting : Setting} → (error : SinkError) (status : Status) (
 error_ends Failed status start end f s p = rw (f refl) p
 error_ends Starved status start end f s p = rw (s refl) p
 
-pub error_faults : (error : SinkError) (status : Status) (start mid end : Outside) → (error ≡ Failed → status ≡ SinkFault) → (error ≡ Starved → status ≡ NoMemory) → NoFaults start mid →
-    CountsSink {X = Flow} (Err error) mid end → FaultsAs status start end
-error_faults Failed status start mid end f s k c = rw (f refl) (sink_fault start mid end k c.0 c.1)
-error_faults Starved status start mid end f s k c = rw (s refl) (faults_stay start mid end k c.0 c.1)
+pub error_faults_beside : (error : SinkError) (status : Status) (start mid end : Outside) (before after : List (List ℕ)) → (error ≡ Failed → status ≡ SinkFault) → (error ≡ Starved → status ≡ NoMemory) → NoFaults start (beside mid before) →
+    CountsSink {X = Flow} (Err error) mid end → FaultsAs status start (beside end after)
+error_faults_beside Failed status start mid end before after f s k c = rw (f refl) (sink_fault start (beside mid before) (beside end after) k (record { left = c.0.left; faults = c.0.faults }) c.1)
+error_faults_beside Starved status start mid end before after f s k c = rw (s refl) (faults_stay start (beside mid before) (beside end after) k (record { left = c.0.left; faults = c.0.faults }) c.1)
 
 pub error_good : (error : SinkError) (status : Status) → (error ≡ Failed → status ≡ SinkFault) → (error ≡ Starved → status ≡ NoMemory) → (status ≢ Usage) × (status ≢ ScriptTooLong)
 error_good Failed status f s = rw (f refl) (λ e. cc, λ e. cc)

@@ -19,7 +19,7 @@ use Rattle.mt_answer.specs.declared.reply.Reply.TheVariants.{Refused, Lines, Las
 use Rattle.mt_shell.specs.declared.talk.Flow.{Flow}
 use Rattle.mt_shell.specs.Answers.{Stepped}
 use Rattle.mt_shell.specs.Outsides.{known, writes_on}
-use Rattle.mt_shell.specs.Reads.{Replied, RepliedInPart, WroteFront, Flows}
+use Rattle.mt_shell.specs.Reads.{Replied, RepliedInPart, WroteFront, Flows, reply_bytes}
 
 -- a fact that holds holds after an error
 pub always : {T E : Type 0} → (r : Result T E) → {P : Type 0} → P → OnErr r P
@@ -104,13 +104,6 @@ plain_front held item answer bytes start end written s e only h told =
     }
 
 -- ## Commands
-
--- the bytes of a reply
-abbrev pub reply_bytes : Reply → List ℕ
-reply_bytes (Refused bytes) = bytes
-reply_bytes (Lines bytes) = bytes
-reply_bytes (Last bytes) = bytes
-reply_bytes NoMemory = closed no_memory_line
 
 are_said : (reply : Reply) (answer : Answer) → Says reply answer → reply_bytes reply ≡ bytes_of answer
 are_said reply answer (SaysRefused bytes line e) = e ∙ sym (append-nil (closed line))

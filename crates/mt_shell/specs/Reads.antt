@@ -1,14 +1,18 @@
 -- How far a run has come.
 use Rattle.std.specs.Prelude.{ℕ, ◌≡◌, ◌≢◌, ◌-◌, Bool, List, [], ◌∷◌, ◌++◌, length, take, Option, Some, None}
+use Rattle.mt_text_spec.specs.Lines.{closed}
 use Rattle.mt_script_spec.specs.Commands.{Quit}
 use Rattle.mt_script_spec.specs.Script.{Item, Given, Bad, CutShort, Begins}
 use Rattle.mt_session_spec.specs.World.{Held}
 use Rattle.mt_session_spec.specs.Settings.{Setting}
 use Rattle.mt_session_spec.specs.Gains.{Gained}
 use Rattle.mt_session_spec.specs.Answers.{Answer, bytes_of, output_of}
+use Rattle.mt_session_spec.specs.Refusals.{no_memory_line}
 use Rattle.mt_session_spec.specs.Steps.{IsSaid}
 use Rattle.mt_session_spec.specs.Replies.{Known, KnownStep, Replies, NoQuit}
 use Rattle.mt_session_spec.specs.Runs.{Outside, Leaves, InPart}
+use Rattle.mt_answer.specs.declared.reply.Reply.{Reply}
+use Rattle.mt_answer.specs.declared.reply.Reply.TheVariants as reply
 use Rattle.mt_script.specs.Seen.{command_of}
 use Rattle.mt_script.specs.declared.command.Next.{Next}
 use Rattle.mt_script.specs.declared.command.Next.TheVariants.{Command as NextCommand, Bad as NextBad, CutShort as NextCutShort, More as NextMore, End as NextEnd, NoMemory as NextNoMemory}
@@ -112,3 +116,10 @@ IsLast NextNoMemory = ⊥
 abbrev pub Flows : Flow → Item → Type 0
 Flows On item = item ≢ Given Quit
 Flows Over item = item ≡ Given Quit
+
+-- the bytes of a reply
+abbrev pub reply_bytes : Reply → List ℕ
+reply_bytes (reply.Refused bytes) = bytes
+reply_bytes (reply.Lines bytes) = bytes
+reply_bytes (reply.Last bytes) = bytes
+reply_bytes reply.NoMemory = closed no_memory_line

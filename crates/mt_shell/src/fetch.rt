@@ -15,7 +15,7 @@ use std::alloc::Global;
 const FILE_BYTES_LIMIT: u32 = 67_108_864;
 
 /// What a command finds of a file.
-#[derive(Debug, Drop)]
+#[derive(Drop)]
 pub enum Fetched {
     /// Its bytes.
     Whole(List<u8>),

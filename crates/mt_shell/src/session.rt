@@ -66,28 +66,48 @@ impl<P: PatternShop, M: Mapper> Session<P, M> {
     {
         refused_keep();
         self.state.valid();
-        let alloc = self.alloc;
+        let reply = self.perform(rt, &command, edge, shop);
+        drop(command);
+        reply
+    }
+
+    /// Does what the command says, and answers it. That a refused command changes nothing follows of what it means.
+    fn perform<R: Threads + Sync, E: Edge>(
+        &mut self,
+        rt: &R,
+        command: &Command,
+        edge: &mut E,
+        shop: &mut P,
+    ) -> Reply
+        ghost setting: { Setting }
+        requires said { IsSaid (command_of command.now) }
+        requires serves { Serves setting (named M.called M.image self.old.mappers.items) self.old.state }
+        ensures means { Stepped setting self.old.state.held (command_of command.now) result self.new.state.held
+            (beside (E.seen edge.old) (P.refused shop.old)) (beside (E.seen edge.new) (P.refused shop.new)) }
+        ensures serves { Serves setting (named M.called M.image self.new.mappers.items) self.new.state }
+        ensures names { E.names edge.new ≡ E.names edge.old }
+    {
         match command {
-            Command::Registry { file } => self.state.set_registry(&file, &mut self.mappers, edge),
+            Command::Registry { file } => self.state.set_registry(file, &mut self.mappers, edge),
             Command::Text { name, body } => {
                 self.state
-                    .add_text(&name, body.as_slice(), &mut self.mappers, shop)
+                    .add_text(name, body.as_slice(), &mut self.mappers, shop)
             }
             Command::Add { name, file } => {
                 self.state
-                    .add_file(&name, &file, &mut self.mappers, edge, shop)
+                    .add_file(name, file, &mut self.mappers, edge, shop)
             }
             Command::Generate { name, seed, tokens } => {
                 self.state
-                    .generate(&name, seed, tokens, &mut self.mappers, shop)
+                    .generate(name, *seed, *tokens, &mut self.mappers, shop)
             }
-            Command::Ask(ask) => self.state.answer(rt, &ask, shop),
-            Command::Grammar { file } => self.state.set_grammar(&file, edge, shop),
+            Command::Ask(ask) => self.state.answer(rt, ask, shop),
+            Command::Grammar { file } => self.state.set_grammar(file, edge, shop),
             Command::Rules { body } => self.state.set_rules(body.as_slice(), shop),
             Command::Segments => self.state.segments(),
-            Command::Remove { name } => self.state.remove(&name, shop),
-            Command::Quit => quit(alloc),
-            _ => refused(alloc, &Refusal::BadCommand),
+            Command::Remove { name } => self.state.remove(name, shop),
+            Command::Quit => quit(self.alloc),
+            _ => refused(self.alloc, &Refusal::BadCommand),
         }
     }
 }

@@ -11,7 +11,7 @@ ghost use Rattle.mt_session_spec.specs.Runs.{Leaves};
 ghost use Rattle.mt_script.specs.Seen.{command_of};
 ghost use Rattle.mt_shell.specs.Outsides.{CountsSink, beside, writes_on};
 ghost use Rattle.mt_shell.specs.Serves.{Serves, first_kept};
-ghost use Rattle.mt_shell.specs.Reads.{Replied, RepliedInPart, Progress, ProgressToQuit, ProgressInPart, item_of, IsLast, IsSaidNext, Flows, WroteFront};
+ghost use Rattle.mt_shell.specs.Reads.{Replied, RepliedInPart, Progress, ProgressToQuit, ProgressInPart, item_of, IsLast, IsSaidNext, Flows, WroteFront, reply_bytes};
 
 use super::edge::Edge;
 use super::session::Session;
@@ -26,7 +26,7 @@ use std::alloc::Global;
 use std::thread::Threads;
 
 /// Whether the run goes on.
-#[derive(Clone, Copy, Debug, PartialEq, Eq, Drop)]
+#[derive(Clone, Copy, Drop)]
 pub enum Flow {
     /// It does.
     On,
@@ -49,10 +49,11 @@ impl<P: PatternShop, M: Mapper> Talk<P, M> {
         ensures mappers { IfOk result (λ talk. talk.session.mappers ≡ mappers) }
         ensures state { IfOk result (λ talk. talk.session.state ≡ first_kept) }
     {
+        let session = Session::new(alloc, mappers)?;
         Ok(Talk {
             alloc,
             reader: ScriptReader::new(alloc),
-            session: Session::new(alloc, mappers)?,
+            session,
         })
     }
 
@@ -142,6 +143,7 @@ impl<P: PatternShop, M: Mapper> Talk<P, M> {
         loop {
             let next = self.reader.next_command(self.alloc);
             if is_last(&next) {
+                drop(next);
                 return Ok(Flow::On);
             }
             match answer_item(rt, &mut self.session, next, edge, shop)? {
@@ -209,12 +211,8 @@ fn answer_command<P: PatternShop, M: Mapper, R: Threads + Sync, E: Edge>(
     ensures names { E.names edge.new ≡ E.names edge.old }
 {
     let flow = flow_behind(&command);
-    match session.step(rt, command, edge, shop) {
-        Reply::Refused(line) => write_then(edge, line.as_slice(), flow),
-        Reply::Lines(lines) => write_then(edge, lines.as_slice(), flow),
-        Reply::Last(line) => write_then(edge, line.as_slice(), flow),
-        Reply::NoMemory => write_then(edge, NO_MEMORY.as_bytes(), flow),
-    }
+    let reply = session.step(rt, command, edge, shop);
+    write_reply(edge, reply, flow)
 }
 
 /// Whether the run goes on behind a command, whatever is answered to it.
@@ -227,7 +225,30 @@ fn flow_behind(command: &Command) -> Flow
     }
 }
 
-/// Writes a reply, behind which the run goes on or not.
+/// Writes a reply, behind which the run goes on or not, and lets it go.
+fn write_reply<E: Edge>(edge: &mut E, reply: Reply, flow: Flow) -> Result<Flow, SinkError>
+    ensures ok { IfOk result (λ f. (f ≡ flow) × Told ((E.seen edge.old).written) (λ all. (E.seen edge.new).written ≡ Some (all ++ reply_bytes reply))) }
+    ensures part { OnErr result (Told ((E.seen edge.old).written) (λ all. WroteFront (reply_bytes reply) all ((E.seen edge.new).written))) }
+    ensures counts { CountsSink result (E.seen edge.old) (E.seen edge.new) }
+    ensures only { E.seen edge.new ≡ writes_on (E.seen edge.old) (E.seen edge.new) }
+    ensures names { E.names edge.new ≡ E.names edge.old }
+{
+    write_then(edge, bytes_of(&reply), flow)
+}
+
+/// The bytes of a reply.
+fn bytes_of(reply: &Reply) -> &[u8]
+    ensures { result.now ≡ reply_bytes reply.now }
+{
+    match reply {
+        Reply::Refused(line) => line.as_slice(),
+        Reply::Lines(lines) => lines.as_slice(),
+        Reply::Last(line) => line.as_slice(),
+        Reply::NoMemory => NO_MEMORY.as_bytes(),
+    }
+}
+
+/// Writes a piece, behind which the run goes on or not.
 fn write_then<E: Edge>(edge: &mut E, piece: &[u8], flow: Flow) -> Result<Flow, SinkError>
     ensures ok { IfOk result (λ f. (f ≡ flow) × Told ((E.seen edge.old).written) (λ all. (E.seen edge.new).written ≡ Some (all ++ piece.now))) }
     ensures part { OnErr result (Told ((E.seen edge.old).written) (λ all. WroteFront piece.now all ((E.seen edge.new).written))) }
