@@ -4,16 +4,13 @@ ghost use Rattle.std.specs.Prelude.{◌≡◌, ℕ, ◌+◌, ◌*◌, ◌^◌, �
 ghost use Rattle.std.specs.List.{All, AllZip, Contains};
 ghost use Rattle.mt_word_sketch_spec.specs.Ranks.{FirstRanked};
 ghost use Rattle.mt_word_sketch_spec.specs.Order.{ranked_of};
-ghost use Rattle.rayon.specs.Lists.{chunks_of};
 ghost use Rattle.mt_ranks.specs.Bests.{AreDistinct, IsBest};
 ghost use Rattle.mt_thesaurus.specs.Told.{AreOthers, similar_at, weighed_all};
 
 use indexmap::IndexSet;
 use mt_base::{List, NoMemory, Value};
 use mt_ranks::{Chosen, RankedWord, first_of_all};
-use rayon::prelude::*;
 use std::alloc::Global;
-use std::thread::Threads;
 
 /// A word by its number, and the fraction by which it is ranked.
 #[derive(Clone, Copy)]
@@ -37,12 +34,8 @@ pub(crate) fn others_of(alloc: Global, parts: &[u128], lemma: usize) -> Result<V
     Ok(numbers)
 }
 
-/// The best of so many words are chosen at a time: threads take such parts, since starting them takes longer than few words do.
-const PART: usize = 1 << 14;
-
-/// The first `max` of words by their fractions. No others are copied than the best of each part.
-pub(crate) fn first_ranked<R: Threads + Sync>(
-    rt: &R,
+/// The first `max` of words by their fractions. No others are copied.
+pub(crate) fn first_ranked(
     alloc: Global,
     words: &IndexSet<Value>,
     numbers: &[u32],
@@ -59,42 +52,10 @@ pub(crate) fn first_ranked<R: Threads + Sync>(
     ensures { AreDistinct (weighed_all words.now.keys parts.now sums.now lemma numbers.now)
         → IfOk result (λ shown. FirstRanked ranked_of (Contains (weighed_all words.now.keys parts.now sums.now lemma numbers.now)) max shown) }
 {
-    let lists = best_of_each(rt, alloc, words, numbers, parts, sums, lemma, max)?;
+    let best = best_of(alloc, words, numbers, parts, sums, lemma, max)?;
+    let mut lists = Vec::new(alloc);
+    lists.push(best)?;
     first_of_all(alloc, lists, max)
-}
-
-/// The best `max` of each part of the words, by several threads where there are several parts.
-fn best_of_each<R: Threads + Sync>(
-    rt: &R,
-    alloc: Global,
-    words: &IndexSet<Value>,
-    numbers: &[u32],
-    parts: &[u128],
-    sums: &[u64],
-    lemma: u32,
-    max: usize,
-) -> Result<Vec<List<RankedWord>>, NoMemory>
-    requires below { All (λ word. word < length words.now.keys) numbers.now }
-    requires parts { length parts.now ≡ length words.now.keys }
-    requires sums { length sums.now ≡ length words.now.keys }
-    requires lemma { lemma < length sums.now }
-    requires some { 0 < slice_index sums.now lemma }
-    ensures { IfOk result (λ lists. AllZip (IsBest max) (map (weighed_all words.now.keys parts.now sums.now lemma) (chunks_of (2 ^ 14) numbers.now)) lists.items) }
-{
-    let lists: Result<Vec<List<RankedWord>>, NoMemory> = numbers
-        .par_chunks(PART)
-        .map(
-            |part: &[u32]| -> Result<List<RankedWord>, NoMemory>
-                requires below { All (λ word. word < length words.now.keys) part.now }
-                requires parts { length parts.now ≡ length words.now.keys }
-                requires sums { length sums.now ≡ length words.now.keys }
-                requires lemma { lemma < length sums.now }
-                requires some { 0 < slice_index sums.now lemma }
-                ensures { IfOk result (IsBest max (weighed_all words.entry.now.keys parts.entry.now sums.entry.now lemma part.now)) }
-            { best_of(alloc, words, part, parts, sums, lemma, max) },
-        )
-        .collect(rt, alloc)?;
-    lists
 }
 
 /// The best `max` of words.

@@ -27,7 +27,7 @@ use std::alloc::Global;
 use std::marker::Model;
 use std::thread::Threads;
 
-/// The contexts in which words stand, with their scores, by numbers: in the order of words and in that of contexts, 24 bytes for each word in a context.
+/// The contexts in which words stand, with their scores, by numbers: in the order of words and in that of contexts, 24 bytes for each word in a context and 4 for each word and each context.
 #[derive(Drop)]
 pub struct Contexts {
     words: IndexSet<Value>,
@@ -58,16 +58,18 @@ impl Contexts {
         let placed = placed_of(alloc, &numbered)?;
         let turned = turned_all(alloc, &placed)?;
         let sums = sums_of(alloc, words.len(), &placed)?;
+        let by_word = Grouped::new(alloc, placed)?;
+        let by_context = Grouped::new(alloc, turned)?;
         Ok(Contexts {
             words,
-            by_word: Grouped::new(placed),
-            by_context: Grouped::new(turned),
+            by_word,
+            by_context,
             sums,
         })
     }
 
     /// The lines of the thesaurus of a lemma: the first `max` words that share a context with it. It costs by how many words stand in the lemma's contexts, and by how
-    /// many words there are; it sorts no more than are shown, and copies few others. Where the scores are those of counts, the reply is that to `thes` over any texts of which the counts are.
+    /// many words there are; it sorts and copies no more than are shown. Where there is much to add up, several threads do so. Where the scores are those of counts, the reply is that to `thes` over any texts of which the counts are.
     pub fn thesaurus<R: Threads + Sync>(
         &self,
         rt: &R,
@@ -118,10 +120,9 @@ impl Contexts {
             return Ok(List::new(alloc));
         }
         let own = self.by_word.of(lemma as u32);
-        let parts = parts_of(alloc, self.words.len(), own, &self.by_context)?;
+        let parts = parts_of(rt, alloc, self.words.len(), own, &self.by_context)?;
         let numbers = others_of(alloc, &parts, lemma)?;
         first_ranked(
-            rt,
             alloc,
             &self.words,
             &numbers,

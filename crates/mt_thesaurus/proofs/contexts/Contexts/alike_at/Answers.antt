@@ -22,18 +22,18 @@ returns-then-index-eq0-clause-are g c =
     λ f word there are. none_first f word c.args.max c.new.result (zero_told i.words.keys i.by_word i.by_context i.sums.items c.args.self.now c.self.invariant c.self.view_is c.args.lemma c.requires none f word there are) c.new.ensures
 
 pub first_ranked-requires-clause-below : goal.first_ranked-requires-clause-below
-first_ranked-requires-clause-below g c κs lives =
+first_ranked-requires-clause-below g c =
     below_all c.deref.result.now c.in_ok-numbers.numbers.items c.deref-2.result.now c.args.lemma (length c.deref.result.now) (length c.self.inside.words.keys) c.in_ok-numbers.ensures c.deref-2.ensures.value
     (omega (arith, ap length c.deref.ensures.value, c.in_ok-parts.ensures.count, c.len.ensures.len))
 
 pub first_ranked-requires-clause-parts : goal.first_ranked-requires-clause-parts
-first_ranked-requires-clause-parts g c κs lives = omega (arith, ap length c.deref-3.ensures.value, c.in_ok-parts.ensures.count, c.len.ensures.len)
+first_ranked-requires-clause-parts g c = omega (arith, ap length c.deref-3.ensures.value, c.in_ok-parts.ensures.count, c.len.ensures.len)
 
 pub first_ranked-requires-clause-sums : goal.first_ranked-requires-clause-sums
-first_ranked-requires-clause-sums g c κs lives = omega (arith, ap length c.deref-4.ensures.value, c.self.invariant.count)
+first_ranked-requires-clause-sums g c = omega (arith, ap length c.deref-4.ensures.value, c.self.invariant.count)
 
 pub first_ranked-requires-clause-some : goal.first_ranked-requires-clause-some
-first_ranked-requires-clause-some g c κs lives =
+first_ranked-requires-clause-some g c =
     let i = c.self.inside in
     let l = c.args.lemma in
     let low : l < length i.words.keys = subst (λ (s : Scores). l < length s.words) (sym c.self.view_is) c.requires in

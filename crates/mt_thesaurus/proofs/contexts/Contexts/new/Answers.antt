@@ -14,7 +14,7 @@ sums_of-requires-clause-below c =
 
 pub invariant_of-result : goal.invariant_of-result
 invariant_of-result c =
-    joined c.in_ok-words.words.keys c.in_ok-placed.placed.items c.new.result c.new-2.result c.in_ok-turned.turned.items c.in_ok-sums.sums.items c.len.result c.in_ok-words.ensures.few (c.in_ok-turned.ensures ∙ ap (λ (ps : List Placed). map turned ps) c.deref.ensures.value) c.new.ensures c.new-2.ensures
+    joined c.in_ok-words.words.keys c.in_ok-placed.placed.items c.in_ok-by_word.by_word c.in_ok-by_context.by_context c.in_ok-turned.turned.items c.in_ok-sums.sums.items c.len.result c.in_ok-words.ensures.few (c.in_ok-turned.ensures ∙ ap (λ (ps : List Placed). map turned ps) c.deref.ensures.value) c.in_ok-by_word.ensures c.in_ok-by_context.ensures
     (omega (arith, c.len.ensures.len))
     (placed_below c.args.triples.now c.numbered-numbered.result (length c.numbered-numbered.result.entries) c.len.result c.in_ok-placed.placed.items c.in_ok-placed.placed.items c.numbered-numbered.ensures c.in_ok-placed.ensures.are refl
     (omega (arith, c.len.ensures.len, ap length c.in_ok-words.ensures.are)))
@@ -22,4 +22,4 @@ invariant_of-result c =
 
 pub returns : goal.returns
 returns c =
-    scores_told c.args.triples.now c.numbered-numbered.result c.requires c.numbered-numbered.ensures (length c.numbered-numbered.result.entries) refl c.in_ok-placed.placed.items c.in_ok-placed.ensures.are c.in_ok-words.words.keys c.new.result c.in_ok-words.ensures.are c.new.ensures
+    scores_told c.args.triples.now c.numbered-numbered.result c.requires c.numbered-numbered.ensures (length c.numbered-numbered.result.entries) refl c.in_ok-placed.placed.items c.in_ok-placed.ensures.are c.in_ok-words.words.keys c.in_ok-by_word.by_word c.in_ok-words.ensures.are c.in_ok-by_word.ensures

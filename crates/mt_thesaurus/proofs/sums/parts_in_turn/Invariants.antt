@@ -1,7 +1,7 @@
 -- So many contexts of the word have given what they give.
 use Rattle.std.proofs.Common.{◌≡◌, ℕ, ◌*◌, ◌^◌, ◌≤◌, get_or, length, take}
 use Rattle.mt_thesaurus.specs.Sums.{part_of}
-use Rattle.mt_thesaurus.proofs.sums.parts_of.Given as goal
+use Rattle.mt_thesaurus.proofs.sums.parts_in_turn.Given as goal
 
 abbrev pub invariant-loop-one : goal.invariant-loop-one
 invariant-loop-one l = record {
