@@ -3,6 +3,7 @@ pub mod Exact
 pub mod Growing
 pub mod Mapped
 pub mod Rising
+pub mod Forgetting
 pub mod Splitting
 pub mod Gaining
 pub mod Filling

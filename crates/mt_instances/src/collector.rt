@@ -102,7 +102,8 @@ impl<'a> Collector<'a> {
         add_rows(&words, &mut self.gathered, relation, rows)
     }
 
-    /// Ends the text: counts each of its instances once, by the values at its places, and takes the text away. It costs one sort of what the rows gave.
+    /// Ends the text: counts each of its instances once, by the values at its places, and takes the text away. It costs by how many the
+    /// rows gave, and one sort of them where those of some name did not come in ascending order.
     pub fn finish_text(&mut self) -> Result<(), NoMemory>
         ensures lexicon { self.new.lexicon ≡ self.old.lexicon }
         ensures numbers { OnOk result (self.new.numbers ≡ []) }

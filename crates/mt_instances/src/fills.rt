@@ -70,10 +70,10 @@ impl Fills {
         }
     }
 
-    /// Forgets all, and keeps the memory for others.
+    /// Forgets all, and keeps the memory for others. It costs by how many there are, however many there were before.
     pub(crate) fn clear(&mut self)
         ensures { self.new ≡ [] }
     {
-        self.finals.clear();
+        self.finals.truncate(0);
     }
 }

@@ -114,13 +114,13 @@ impl Instances {
         self.entries[k]
     }
 
-    /// Takes all instances away, and keeps the names, and the memory for others.
+    /// Takes all instances away, and keeps the names, and the memory for others. It costs by how many instances there were, however many names there are.
     pub(crate) fn clear(&mut self)
         ensures names { self.new.names ≡ self.old.names }
         ensures given { self.new.given ≡ [] }
     {
+        self.ranks.forget(self.entries.as_slice());
         self.entries.clear();
-        self.ranks.clear();
         self.rising = true;
     }
 }

@@ -1,7 +1,8 @@
 //! The instances of a sketch grammar in a text, each once, and their counts.
 //!
 //! Rows of queries are told one query after another, with the relation that the query stands under. An instance is kept as small numbers, those of its final name and
-//! of its places; all of a text are sorted once, and each is then counted once, however many rows, lines and headings give it.
+//! of its places. Where the instances of each name come in ascending order, each is there once; else those of the text are sorted, and one of equal ones is kept. Each
+//! is then counted once, however many rows, lines and headings give it.
 #![tactic(auto)]
 
 mod collector;

@@ -50,7 +50,7 @@ impl Numbers {
     {
         let here = here as usize;
         if here >= self.numbers.len() {
-            self.numbers.resize(here + 1, None)?;
+            self.numbers.resize(2 * (here + 1), None)?;
         }
         self.numbers[here] = Some(there);
         Ok(())

@@ -1,6 +1,7 @@
 //! Whether the entries of each name come in ascending order.
 
 ghost use Rattle.std.specs.Prelude.{◌≡◌, ℕ, ◌^◌, ◌<◌, ◌≤◌, [], length, slice_index, IfOk, IsTrue, OnOk};
+ghost use Rattle.std.specs.List.{All};
 ghost use Rattle.mt_instances.specs.Rising.{rank_of, rank_of_two};
 
 use crate::entry::Entry;
@@ -74,11 +75,16 @@ impl Ranks {
         Ok(true)
     }
 
-    /// No name has an entry, and the memory is kept for others.
-    pub(crate) fn clear(&mut self)
-        ensures { self.new ≡ [] }
+    /// The names of these entries have none, and the memory is kept for others. It costs by how many the entries are.
+    pub(crate) fn forget(&mut self, entries: &[Entry])
+        ensures { All (λ entry. slice_index self.new entry.name ≡ 0) entries.now }
     {
-        self.ends.clear();
+        for entry in entries {
+            let name = entry.name as usize;
+            if name < self.ends.len() {
+                self.ends[name] = 0;
+            }
+        }
     }
 }
 
@@ -91,6 +97,6 @@ fn make_room(ends: &mut Vec<u128>, name: usize) -> Result<(), NoMemory>
     if name < ends.len() {
         return Ok(());
     }
-    ends.resize(name + 1, 0)?;
+    ends.resize(2 * (name + 1), 0)?;
     Ok(())
 }
