@@ -125,8 +125,8 @@ fn rows(alloc: Global, text: &mut String, plural: bool) -> Result<List<Strings>,
     Ok(rows)
 }
 
-/// Makes the row the values of a token.
-fn make_row(row: &mut Strings, text: &mut String, token: Drawn) -> Result<(), NoMemory>
+/// Makes the row the values of a token under the standard registry. What the text beside it had is lost.
+pub fn make_row(row: &mut Strings, text: &mut String, token: Drawn) -> Result<(), NoMemory>
     ensures { OnOk result (row.new ≡ (token_of token.rank token.plural).values) }
 {
     let mut buffer = Buffer::new();
