@@ -10,7 +10,7 @@ ghost use Rattle.mt_corpus_spec.specs.Decoded.{images_in};
 ghost use Rattle.mt_corpus.specs.Added.{MayBeKept, SomeMayBeKept};
 ghost use Rattle.mt_segment.specs.Mappers.{named};
 ghost use Rattle.mt_script_spec.specs.Commands as spec;
-ghost use Rattle.mt_session_spec.specs.World.{Holds, IsFull, with_text};
+ghost use Rattle.mt_session_spec.specs.World.{Holds, with_text};
 ghost use Rattle.mt_session_spec.specs.Settings.{Setting, images_of};
 ghost use Rattle.mt_shell.specs.Fetches.{Finds, gained_of};
 ghost use Rattle.mt_shell.specs.Outsides.{beside};
@@ -145,40 +145,34 @@ impl<P: PatternShop> State<P> {
         ensures serves { Serves setting (named M.called M.image mappers.new.items) self.new }
         ensures shop { P.refused shop.new ≡ P.refused shop.old }
     {
-        if self.corpus.is_full(text.len()) {
+        let tokens = text.len();
+        if self.corpus.is_full(tokens) {
             return refused(self.alloc, &Refusal::CorpusFull);
         }
-        let Ok(line) = count_line(self.alloc, "ok", text.len() as u128) else {
+        let Ok(segment) = self.corpus.build(text, mappers) else {
             return Reply::NoMemory;
         };
-        match self.keep_counted(text, mappers, shop) {
+        self.keep_made(tokens, segment, shop)
+    }
+
+    /// Keeps the segment of a text of so many tokens for which there is room, and tells of it.
+    pub(super) fn keep_made(&mut self, tokens: usize, segment: Segment, shop: &mut P) -> Reply
+        ghost setting: { Setting }
+        requires may { SomeMayBeKept (corpus_in self.old) segment }
+        requires images { AreImagesBy (images_of setting) (images_in self.old.held.registry segment) }
+        requires taken { AreImagesBy (images_of setting) self.old.taken }
+        ensures means { (text : texts.Text) → MayBeKept (corpus_in self.old) text segment → tokens ≡ length text.tokens → KeepsText setting self.old.held text result self.new.held }
+        ensures serves { (mappers : List (List ℕ × (List ℕ → List ℕ))) → Serves setting mappers self.old → Serves setting mappers self.new }
+        ensures shop { P.refused shop.new ≡ P.refused shop.old }
+    {
+        let Ok(line) = count_line(self.alloc, "ok", tokens as u128) else {
+            return Reply::NoMemory;
+        };
+        match self.keep_segment(segment, shop) {
             Ok(()) => Reply::Lines(line),
             Err(CountError::TooManyRows) => refused(self.alloc, &Refusal::TooManyRows),
             Err(CountError::NoMemory) => Reply::NoMemory,
         }
-    }
-
-    /// Keeps a text for which there is room, counted where a grammar is held.
-    fn keep_counted<M: Mapper>(
-        &mut self,
-        text: Text,
-        mappers: &mut Vec<M>,
-        shop: &mut P,
-    ) -> Result<(), CountError>
-        ghost setting: { Setting }
-        requires free { Holds self.old.held text.name → ⊥ }
-        requires valid { ValidText self.old.held.registry text }
-        requires room { IsFull self.old.held.groups (length text.tokens) → ⊥ }
-        requires serves { Serves setting (named M.called M.image mappers.old.items) self.old }
-        ensures ok { OnOk result (self.new.held ≡ with_text self.old.held text) }
-        ensures poor { OnOk result (IsRich setting self.old.held text → ⊥) }
-        ensures rich { IsErrOf result CountError.TooManyRows → IsRich setting self.old.held text }
-        ensures err { OnErr result (self.new.held ≡ self.old.held) }
-        ensures serves { Serves setting (named M.called M.image mappers.new.items) self.new }
-        ensures shop { P.refused shop.new ≡ P.refused shop.old }
-    {
-        let segment = self.corpus.build(text, mappers)?;
-        self.keep_segment(segment, shop)
     }
 
     /// Keeps the segment of a text for which there is room, counted where a grammar is held.

@@ -2,12 +2,23 @@ use Rattle.std.proofs.Common.{rules}
 use Rattle.std.proofs.Common.{refl, subst}
 use Rattle.mt_session_spec.specs.World.{ValidHeld}
 use Rattle.mt_shell.specs.Serves.{Kept}
-use Rattle.mt_shell.proofs.Generating.{generate_taken, generate_starved, generate_read}
+use Rattle.mt_shell.proofs.Generating.{generate_kept, generate_taken, generate_starved, generate_read, valid_there}
 use Rattle.mt_shell.proofs.Meanings.{not_true}
 use Rattle.mt_shell.proofs.state.State.generate.Goals as goal
 
 pub returns-then-holds-clause-means : goal.returns-then-holds-clause-means
 returns-then-holds-clause-means g c = generate_taken g.setting c.args.self.now.held c.args.name.now c.args.seed c.args.tokens c.refused.result (c.if-holds.ensures.0 refl) (rw c.as_str.ensures at c.refused.ensures)
+
+pub keep_generated-requires : goal.keep_generated-requires
+keep_generated-requires g c = λ κs h.
+    let (standard, few) = c.if-needs_no_vertical.ensures refl in
+    (h.0, (h.1, (λ held. not_true (c.if-holds.ensures.1 held), (standard, (valid_there c.valid_texts.ensures c.args.self.now.held.registry c.args.name.now c.args.seed c.args.tokens standard c.requires.1.1.1.1.0 few, c.requires.1.1.1.1.1.taken)))))
+
+pub returns-then-needs_no_vertical-clause-means : goal.returns-then-needs_no_vertical-clause-means
+returns-then-needs_no_vertical-clause-means g c =
+    let (standard, few) = c.if-needs_no_vertical.ensures refl in
+    generate_kept (record { one_text = c.one_text.ensures; no_fault = c.no_text_with_fault.ensures }) c.reads_back.ensures g.setting c.args.self.now.held c.keep_generated.new.self.held c.args.name.now c.args.seed c.args.tokens
+    c.keep_generated.result (subst (λ (k : Kept). ValidHeld k.held) c.self.view_is c.self.invariant.held).registry (λ h. not_true (c.if-holds.ensures.1 h)) standard c.requires.1.1.1.1.0 few c.keep_generated.ensures.means
 
 pub returns-in_default-clause-means : goal.returns-in_default-clause-means
 returns-in_default-clause-means g c = generate_starved g.setting c.args.self.now.held c.args.name.now c.args.seed c.args.tokens
