@@ -9,5 +9,7 @@ pub mod Mappings
 pub mod Numbered
 pub mod Parted
 pub mod Renumbered
+pub mod Runs
 pub mod Slots
+pub mod Sorted
 pub mod Valued

@@ -1,10 +1,10 @@
 -- Columns of values, their numbers and their places.
-use Rattle.std.proofs.Common.{◌≡◌, ℕ, ◌+◌, ◌<◌, ◌≤◌, List, [], length, take, get_or, slice_get, None, Some, sym, ◌∙◌, ap, subst, arith}
+use Rattle.std.proofs.Common.{◌≡◌, ℕ, ◌+◌, ◌<◌, ◌≤◌, List, [], ◌∷◌, ◌++◌, length, map, take, get_or, slice_get, None, Some, sym, ◌∙◌, ap, subst, arith, append_assoc}
 use Rattle.std.specs.List.{All}
-use Rattle.std.proofs.lemmas.List.{take_all}
+use Rattle.std.proofs.lemmas.List.{map_more, take_all}
 use Rattle.std.proofs.lemmas.List.Sums.{sum-map, sum_by_more_le}
 use Rattle.std.proofs.lemmas.Option.{slice_get-get_or, slice_get_within, get_or_from_slice_get}
-use Rattle.mt_text_spec.specs.Texts.{Text, total_tokens}
+use Rattle.mt_text_spec.specs.Texts.{Text, Token, total_tokens, value_of}
 use Rattle.mt_store_spec.specs.Lexicons.{IsAscending, IsLexiconOf, Renumbers}
 use Rattle.mt_segment.proofs.Renumbered.{numbers_within}
 use Rattle.mt_segment_spec.specs.Tables.{AttrTables, ArePlacesOf, ArePostingsOf, AreBaseTables, column_values}
@@ -29,6 +29,16 @@ column_fits column corpus i text l e =
 -- all texts
 pub column_all : (column : ℕ) (corpus : List Text) (i : ℕ) (values : List (List ℕ)) → values ≡ column_values column (take i corpus) → length corpus ≤ i → values ≡ column_values column corpus
 column_all column corpus i values e l = e ∙ ap (column_values column) (take_all i corpus l)
+
+-- the value of one token more
+pub one_value_more : (old values new : List (List ℕ)) (value : List ℕ) (tokens : List Token) (column place : ℕ) → place < length tokens → new ≡ values ++ value ∷ [] →
+    values ≡ old ++ map (λ token. value_of token column) (take place tokens) → ((token : Token) → value ≡ value_of (get_or tokens place token) column) →
+    new ≡ old ++ map (λ token. value_of token column) (take (place + 1) tokens)
+one_value_more old values new value tokens column place l n e v =
+    let token : Token = record { values = [] } in
+    let before : List (List ℕ) = map (λ token. value_of token column) (take place tokens) in
+    n ∙ ap (λ vs. vs ++ value ∷ []) e ∙ append_assoc old before (value ∷ []) ∙ ap (λ v. old ++ (before ++ v ∷ [])) (v token)
+    ∙ ap (λ vs. old ++ vs) (sym (map_more (λ token. value_of token column) tokens place token l))
 
 -- what is wanted of the numbers where they are inverted
 pub numbers_few : (numbers read : List ℕ) (values lexicon : List (List ℕ)) (column : ℕ) (corpus : List Text) → Renumbers numbers values lexicon → values ≡ column_values column corpus → read ≡ numbers →

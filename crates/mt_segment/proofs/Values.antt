@@ -52,7 +52,7 @@ module _ (images : List ℕ → List ℕ → List ℕ) (registry : Registry) (co
 
 -- ---- the numbers of a lexicon
 
-not_below_itself : (a : List ℕ) → IsBelow a a → ⊥
+pub not_below_itself : (a : List ℕ) → IsBelow a a → ⊥
 not_below_itself a h = let e : slice_cmp nat_cmp a a ≡ Equal = tied_itself nat_list_cmp_total a in cc
 
 -- a value stands once in a lexicon

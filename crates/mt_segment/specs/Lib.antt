@@ -7,3 +7,4 @@ pub mod Mappers
 pub mod Numbered
 pub mod Numbers
 pub mod Parts
+pub mod Runs

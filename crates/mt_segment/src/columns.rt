@@ -6,12 +6,34 @@ ghost use Rattle.mt_segment_spec.specs.Tables.{AreBaseTables, column_values};
 
 use super::inverting::postings_of;
 use super::numbering::Numbering;
+use super::sorting::sorted_tables;
 use super::table::{AttrTables, Column, Numbers};
 use mt_base::{NoMemory, Text};
 use std::alloc::Global;
 
-/// The tables of the base attribute that has this place among the base attributes. The number of tokens is known, and tells how much room is wanted.
+/// Up to so many tokens it is cheaper to sort their values than to number them as they are seen.
+const FEW: usize = 64;
+
+/// The tables of the base attribute that has this place among the base attributes. The number of tokens is known, and tells how much room is wanted, and which
+/// of two ways is the cheaper one.
 pub(crate) fn base_tables(
+    alloc: Global,
+    texts: &[Text],
+    column: usize,
+    tokens: usize,
+) -> Result<AttrTables, NoMemory>
+    requires { total_tokens texts.now ≤ corpus_tokens_limit }
+    ensures { IfOk result (λ tables. AreBaseTables (column_values column texts.now) tables) }
+{
+    if tokens <= FEW {
+        sorted_tables(alloc, texts, column, tokens)
+    } else {
+        numbered_tables(alloc, texts, column, tokens)
+    }
+}
+
+/// The same tables for many tokens, whose values are numbered as they are seen.
+fn numbered_tables(
     alloc: Global,
     texts: &[Text],
     column: usize,

@@ -13,6 +13,7 @@ mod mapped;
 mod numbering;
 mod queue;
 mod segment;
+mod sorting;
 mod structs;
 mod table;
 

@@ -3,7 +3,7 @@ use Rattle.mt_store_spec.specs.Lexicons.{IsLexiconOf, Renumbers}
 use Rattle.mt_segment_spec.specs.Tables.{column_values}
 use Rattle.mt_segment.specs.Parts.{AreInverted}
 use Rattle.mt_segment.proofs.Valued.{column_fits, column_all, numbers_few, numbers_low, base_made}
-use Rattle.mt_segment.proofs.columns.base_tables.Goals as goal
+use Rattle.mt_segment.proofs.columns.numbered_tables.Goals as goal
 
 pub add_text-requires : goal.add_text-requires
 add_text-requires c =
