@@ -15,7 +15,7 @@ use Rattle.std.proofs.lemmas.Option.{slice_get_within, slice_get-map, get_or_fro
 use Rattle.mt_text_spec.specs.Registries.{Attr}
 use Rattle.mt_store_spec.specs.Lexicons.{IsLexiconOf, Renumbers}
 use Rattle.mt_lexicon.specs.Joins.{renumbered}
-use Rattle.mt_segment.proofs.Renumbered.{numbers_within, renumbers_then}
+use Rattle.mt_segment.proofs.Renumbered.{renumbers_then}
 use Rattle.mt_segment_spec.specs.Tables.{AttrTables, AreBaseTables, AreMappedTables}
 use Rattle.mt_segment.specs.Mappers.{AreMapped, AreCalled, Called, named, image_by, number_of}
 use Rattle.mt_segment.proofs.Calls.{not_called}
@@ -143,13 +143,11 @@ images_more f g lexicon images new id value its e at is same pushed =
 
 -- ---- tables
 
-pub through_low : (table column read : List ℕ) (images lexicon : List (List ℕ)) (count : ℕ) → Renumbers table images lexicon → All (λ n. n < length images) column → read ≡ renumbered table column → count ≡ length lexicon →
-    All (λ n. n < count) read
-through_low table column read images lexicon count h all e few =
+pub through_low : (table column read : List ℕ) (bound count : ℕ) → All (λ n. n < bound) table → All (λ n. n < length table) column → read ≡ renumbered table column → count ≡ bound → All (λ n. n < count) read
+through_low table column read bound count low all e few =
     subst (λ (ns : List ℕ). All (λ n. n < count) ns) (sym e) (All-from_get_or (λ n. n < count) (renumbered table column) 0 (λ k l.
     let within : k < length column = omega (arith, length-map column (λ (n : ℕ). get_or table n 0)) in
-    let low : get_or column k 0 < length table = omega (arith, all k 0 within, h.count) in
-    rw (get_or-map (λ (n : ℕ). get_or table n 0) column k 0 0 within, few) (numbers_within table images lexicon h (get_or column k 0) 0 low)))
+    rw (get_or-map (λ (n : ℕ). get_or table n 0) column k 0 0 within, few) (low (get_or column k 0) 0 (all k 0 within))))
 
 renumbers_map : (f : List ℕ → List ℕ) (numbers : List ℕ) (old new : List (List ℕ)) → Renumbers numbers old new → Renumbers numbers (map f old) (map f new)
 renumbers_map f numbers old new h = record {

@@ -6,13 +6,10 @@ ghost use Rattle.mt_segment_spec.specs.Tables.{AreBaseTables, column_values};
 
 use super::inverting::postings_of;
 use super::numbering::Numbering;
-use super::sorting::sorted_tables;
+use super::sorting::{FEW, sorted_tables};
 use super::table::{AttrTables, Column, Numbers};
 use mt_base::{NoMemory, Text};
 use std::alloc::Global;
-
-/// Up to so many tokens it is cheaper to sort their values than to number them as they are seen.
-const FEW: usize = 64;
 
 /// The tables of the base attribute that has this place among the base attributes. The number of tokens is known, and tells how much room is wanted, and which
 /// of two ways is the cheaper one.

@@ -1,14 +1,16 @@
 //! The tables of mapped attributes.
 
-ghost use Rattle.std.specs.Prelude.{◌≡◌, ◌<◌, ◌==◌, length, map, if◌then◌else◌, IfOk, IfSome, IfNone, IsTrue, ◌↔◌};
+ghost use Rattle.std.specs.Prelude.{◌≡◌, ℕ, ◌<◌, ◌==◌, length, map, if◌then◌else◌, IfOk, IfSome, IfNone, IsTrue, ◌↔◌, List as Items};
 ghost use Rattle.std.specs.List.{All, Contains};
+ghost use Rattle.mt_store_spec.specs.Lexicons.{IsLexiconOf, Renumbers};
 ghost use Rattle.mt_lexicon.specs.Joins.{renumbered};
 ghost use Rattle.mt_segment.specs.Mappers.{AreCalled, AreMade, AreMapped, AreThere, Called, IsThere, image_by, named, number_of};
 
 use super::inverting::postings_of;
 use super::numbering::Numbering;
+use super::sorting::{FEW, sorted_numbers};
 use super::table::{AttrTables, MappedTable, Numbers};
-use mt_base::{Attr, NoMemory, Registry};
+use mt_base::{Attr, List, NoMemory, Registry, Strings};
 use mt_lexicon::Lexicon;
 use mt_mapper::Mapper;
 use std::alloc::Global;
@@ -86,22 +88,23 @@ fn mapped_tables<M: Mapper>(
     ensures image { M.image mapper.new ≡ M.image mapper.old }
     ensures called { M.called mapper.new ≡ M.called mapper.old }
 {
-    let images = number_images(alloc, &under.lexicon, mapper)?;
-    tables_of(alloc, base, under, images)
+    let (lexicon, numbers) = image_numbers(alloc, &under.lexicon, mapper)?;
+    tables_of(alloc, base, under, lexicon, numbers)
 }
 
-/// The tables of the attribute whose base has this number and these tables, and whose values are these for those of the base.
+/// The tables of the attribute whose base has this number and these tables, and whose lexicon has these numbers for the values of the base.
 fn tables_of(
     alloc: Global,
     base: u16,
     under: &AttrTables,
-    images: Numbering,
+    lexicon: Lexicon,
+    numbers: List<u32>,
 ) -> Result<AttrTables, NoMemory>
     requires few { length under.now.numbers < 4294967295 }
-    requires within { All (λ n. n < length images) under.now.numbers }
-    ensures { IfOk result (λ tables. AreMade base images under.now.numbers tables) }
+    requires within { All (λ n. n < length numbers) under.now.numbers }
+    requires low { All (λ n. n < length lexicon) numbers }
+    ensures { IfOk result (λ tables. (images : Items (Items ℕ)) → IsLexiconOf images lexicon → Renumbers numbers images lexicon → AreMade base images under.now.numbers tables) }
 {
-    let (lexicon, numbers) = images.finish()?;
     let table = MappedTable::new(numbers);
     let column = through(alloc, under.numbers.as_slice(), &table)?;
     let postings = postings_of(alloc, column.as_slice(), lexicon.len() as usize)?;
@@ -112,7 +115,58 @@ fn tables_of(
     })
 }
 
-/// The images of the values of a lexicon. The mapper is called once for each; where memory runs out half-way, those calls are counted that were made.
+/// The lexicon of the images of the values of a lexicon, and the number there of each image in order. The mapper is called once for each value; where memory runs
+/// out half-way, those calls are counted that were made.
+fn image_numbers<M: Mapper>(
+    alloc: Global,
+    lexicon: &Lexicon,
+    mapper: &mut M,
+) -> Result<(Lexicon, List<u32>), NoMemory>
+    ensures lexicon { IfOk result (λ r. IsLexiconOf (map (M.image mapper.old) lexicon.now) r.0) }
+    ensures numbers { IfOk result (λ r. Renumbers r.1 (map (M.image mapper.old) lexicon.now) r.0) }
+    ensures calls { Called (length lexicon.now) (M.calls mapper.old) (M.calls mapper.new) result }
+    ensures image { M.image mapper.new ≡ M.image mapper.old }
+    ensures called { M.called mapper.new ≡ M.called mapper.old }
+{
+    if lexicon.len() as usize <= FEW {
+        let images = few_images(alloc, lexicon, mapper)?;
+        sorted_numbers(alloc, &images)
+    } else {
+        let images = number_images(alloc, lexicon, mapper)?;
+        images.finish()
+    }
+}
+
+/// The images of the values of a lexicon, as they are. The mapper is called as for their numbers.
+fn few_images<M: Mapper>(
+    alloc: Global,
+    lexicon: &Lexicon,
+    mapper: &mut M,
+) -> Result<Strings, NoMemory>
+    ensures images { IfOk result (λ all. all ≡ map (M.image mapper.old) lexicon.now) }
+    ensures calls { Called (length lexicon.now) (M.calls mapper.old) (M.calls mapper.new) result }
+    ensures image { M.image mapper.new ≡ M.image mapper.old }
+    ensures called { M.called mapper.new ≡ M.called mapper.old }
+{
+    let mut kept = Strings::with_capacity(alloc, lexicon.len() as usize, bytes_of(lexicon))?;
+    let mut image = String::new(alloc);
+    for id in 0..lexicon.len() {
+        mapper.map(lexicon.value(id), &mut image)?;
+        kept.push(image.as_str())?;
+    }
+    Ok(kept)
+}
+
+/// How many bytes the values of a lexicon have, for the memory that is taken for their images.
+fn bytes_of(lexicon: &Lexicon) -> usize {
+    let mut bytes = 0usize;
+    for id in 0..lexicon.len() {
+        bytes = bytes.saturating_add(lexicon.value(id).len());
+    }
+    bytes
+}
+
+/// The images of the values of a lexicon, numbered as they are seen. The mapper is called once for each; where memory runs out half-way, those calls are counted that were made.
 fn number_images<M: Mapper>(
     alloc: Global,
     lexicon: &Lexicon,
