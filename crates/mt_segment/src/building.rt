@@ -12,11 +12,11 @@ ghost use Rattle.mt_segment.specs.Mappers.{AreCalled, AreThere, calls_due, calls
 
 use super::columns::base_tables;
 use super::mapped::map_by_name;
-use super::numbering::Numbering;
 use super::segment::Segment;
+use super::sorting::lexicon_of;
 use super::structs::all_instances;
 use super::table::{AttrTables, MappedTable, Numbers};
-use mt_base::{Attr, List, NoMemory, Registry, Text, Value};
+use mt_base::{Attr, List, NoMemory, Registry, Strings, Text, Value};
 use mt_lexicon::have_one_lexicon;
 use mt_mapper::Mapper;
 use std::alloc::Global;
@@ -108,18 +108,17 @@ fn first_tables(
 {
     match attr.base() {
         None => base_tables(alloc, texts, column, tokens),
-        Some(base) => unmade(alloc, base),
+        Some(base) => Ok(unmade(alloc, base)),
     }
 }
 
-/// What stands for the tables of a mapped attribute until they are made.
-fn unmade(alloc: Global, base: u16) -> Result<AttrTables, NoMemory> {
-    let (lexicon, numbers) = Numbering::new(alloc, 0)?.finish()?;
-    Ok(AttrTables {
-        lexicon,
-        numbers: Numbers::Mapped(base, MappedTable::new(numbers)),
+/// What stands for the tables of a mapped attribute until they are made. It takes no memory.
+fn unmade(alloc: Global, base: u16) -> AttrTables {
+    AttrTables {
+        lexicon: lexicon_of(Strings::new(alloc)),
+        numbers: Numbers::Mapped(base, MappedTable::new(List::new(alloc))),
         postings: List::new(alloc),
-    })
+    }
 }
 
 /// Makes the tables of the mapped attributes.
