@@ -1,12 +1,12 @@
 -- Which values of a lexicon a text of plain characters accepts: the text itself.
-use Rattle.std.proofs.Common.{◌≡◌, ◌≢◌, ℕ, ◌<◌, ◌≤◌, ◌⊎◌, ◌↔◌, inl, inr, Bool, true, false, List, [], ◌∷◌, ◌++◌, length, get_or, set, replicate, slice_get, Some, is_some, refl, sym, ◌∙◌, ap, subst, arith, true≢false, codes, encode_utf8, encode_utf8_all, IsUtf8}
+use Rattle.std.proofs.Common.{◌≡◌, ◌≢◌, ℕ, ◌<◌, ◌≤◌, ◌⊎◌, ◌↔◌, inl, inr, Bool, true, false, List, [], ◌∷◌, ◌++◌, length, get_or, set, replicate, slice_get, Option, Some, None, is_some, IfSome, IfNone, refl, sym, ◌∙◌, ap, subst, arith, true≢false, codes, encode_utf8, encode_utf8_all, IsUtf8}
 use Rattle.std.specs.List.{AllPass, Contains}
 use Rattle.std.specs.Str.{chars}
 use Rattle.std.proofs.lemmas.Bool.{cases_lt, cases_eq}
 use Rattle.std.proofs.lemmas.Bool.Decides.{nat_tests}
 use Rattle.std.proofs.lemmas.List.{length-set, length-replicate, get_or-set_same, get_or-set_other, get_or-replicate}
 use Rattle.std.proofs.lemmas.List.Elements.{All-head, All-drop}
-use Rattle.std.proofs.lemmas.Option.{slice_get-get_or, slice_get_within, get_or_from_slice_get}
+use Rattle.std.proofs.lemmas.Option.{slice_get-get_or, slice_get_within, get_or_from_slice_get, same_Some, none-some}
 use Rattle.std.proofs.lemmas.Str.{chars-append, encodes-chars, encode_ascii}
 use Rattle.std.proofs.Math.Seq.{drop-append_seam}
 use Rattle.std.proofs.lemmas.Cmp.{tied_itself}
@@ -18,7 +18,7 @@ use Rattle.regex_syntax.specs.Grammar.{Names, read}
 use Rattle.regex_syntax.specs.Verdict.{is_meta, escaped_text}
 use Rattle.mt_store_spec.specs.Lexicons.{IsBelow, IsAscending}
 use Rattle.mt_pattern_spec.specs.Patterns.{IsPattern, Accepts, MarksAccepted, finds, finds_read, reading, wrapped}
-use Rattle.mt_pattern.specs.Plain.{is_plain_byte}
+use Rattle.mt_pattern.specs.Plain.{AcceptsJust, is_plain_byte}
 use Rattle.mt_pattern.proofs.PlainReading.{whole, marked, is_read_as}
 use Rattle.mt_pattern.proofs.PlainMatching.{only_itself, itself_too}
 
@@ -155,3 +155,24 @@ module _ (text : List ℕ) (utf8 : IsUtf8 text) (plain : AllPass is_plain_byte t
           elsewhere : (id : ℕ) → slice_get lexicon id ≡ Some text → id ≢ place → (id < place) ⊎ (place ≤ id) → ⊥
           elsewhere id is apart (inl low) = one_place lexicon text id place rising is at low
           elsewhere id is apart (inr high) = one_place lexicon text place id rising at is (omega arith)
+
+  -- ---- the number
+
+  pub just : (lexicon : List (List ℕ)) (only : Option ℕ) → IsAscending lexicon → IfSome only (λ place. slice_get lexicon place ≡ Some text) → IfNone only (¬ Contains lexicon text) →
+      IsPattern text → IsPattern (wrapped text) → AcceptsJust text lexicon only
+  just lexicon None rising at absent alone together = λ number value there. (
+    λ e. absurd (none-some number e),
+    λ accepts. absurd (absent (number, slice_get_within lexicon number value there, get_or_from_slice_get lexicon number value text there ∙ only value accepts.found)),
+  )
+  just lexicon (Some place) rising at absent alone together = λ number value there. (
+    λ e.
+        let same : place ≡ number = same_Some place number e in
+        let is : value ≡ text = same_value value text (sym there ∙ ap (slice_get lexicon) (sym same) ∙ at) in
+        record { alone = alone; whole = together; found = found value is },
+    λ accepts. ap Some (by number (there ∙ ap (λ (v : List ℕ). Some v) (only value accepts.found)) (cases_lt number place) (cases_lt place number)),
+  )
+    where
+      by : (number : ℕ) → slice_get lexicon number ≡ Some text → (number < place) ⊎ (place ≤ number) → (place < number) ⊎ (number ≤ place) → place ≡ number
+      by number there (inl low) other = absurd (one_place lexicon text number place rising there at low)
+      by number there (inr l) (inl high) = absurd (one_place lexicon text place number rising at there high)
+      by number there (inr l) (inr m) = omega arith

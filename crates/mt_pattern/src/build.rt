@@ -1,18 +1,18 @@
 //! Patterns that are to match whole values, and the values that they accept.
 
-ghost use Rattle.std.specs.List.{AllZip};
-ghost use Rattle.std.specs.Prelude.{◌≡◌, map, string_bytes, IfOk, OnOk, IsErrOf};
+ghost use Rattle.std.specs.List.{AllPass, AllZip};
+ghost use Rattle.std.specs.Prelude.{◌≡◌, map, string_bytes, IsTrue, IfOk, OnOk, IsErrOf};
 ghost use Rattle.mt_pattern_spec.specs.Patterns.{IsPattern, MayBeNoPattern, MarksAccepted, finds, wrapped};
+ghost use Rattle.mt_pattern.specs.Plain.{AcceptsJust, is_plain_byte};
 ghost use Rattle.mt_pattern.specs.Shops.{RefusedOne};
 
 use super::id_set::IdSet;
-use super::known::{keep, recalled};
-use super::plain::{is_plain, mark_itself, mark_itself_in_each};
+use super::known::{Known, keep, recalled};
+use super::plain::{is_plain, mark_itself, mark_itself_in_each, own_number};
 use super::shop::{PatternShop, ShopError};
 use mt_base::{List, NoMemory, Value};
 use mt_lexicon::Lexicon;
 use std::alloc::Global;
-use std::collections::HashMap;
 use std::marker::Model;
 
 /// A lexicon with more values is searched anew: what the shop makes for it costs little beside them.
@@ -62,7 +62,7 @@ impl From<ShopError> for IdsError {
 pub struct WholePattern<P: PatternShop> {
     text: Value,
     whole: P::Pattern,
-    known: HashMap<String, bool>,
+    known: Known,
 }
 
 impl<P: PatternShop> Model for WholePattern<P> {
@@ -91,8 +91,25 @@ impl<P: PatternShop> WholePattern<P> {
         let marked = in_marks(alloc, text)?;
         let whole = shop.build(alloc, marked.as_str())?;
         let text = Value::new(alloc, text)?;
-        let known = HashMap::new(alloc);
+        let known = Known::new(alloc);
         Ok(WholePattern { text, whole, known })
+    }
+
+    /// Whether each character of the text stands for itself, so that the pattern accepts one value: the text.
+    pub fn is_plain(&self) -> bool
+        ensures plain { IsTrue result → AllPass is_plain_byte self.now }
+        ensures all { AllPass is_plain_byte self.now → IsTrue result }
+    {
+        is_plain(self.text.as_str())
+    }
+
+    /// The number of the one value that a pattern of plain characters accepts, where the lexicon has it. It takes no memory.
+    pub fn own_number(&self, lexicon: &Lexicon) -> Option<u32>
+        requires { AllPass is_plain_byte self.now }
+        ensures { AcceptsJust self.now lexicon.now result }
+    {
+        let _utf8 = self.text.as_str();
+        own_number(lexicon, &self.text)
     }
 
     /// The numbers of the values that the pattern accepts. A text of plain characters accepts itself alone, and is looked up; where it is kept of

@@ -3,7 +3,7 @@
 ghost use Rattle.std.specs.Prelude.{◌≡◌, ◌<◌, IsTrue, IfOk, IfSome, IfNone, slice_get, Some, Contains, IsUtf8};
 ghost use Rattle.std.specs.List.{AllPass, AllZip};
 ghost use Rattle.mt_pattern_spec.specs.Patterns.{IsPattern, MarksAccepted, wrapped};
-ghost use Rattle.mt_pattern.specs.Plain.{is_plain_byte};
+ghost use Rattle.mt_pattern.specs.Plain.{AcceptsJust, is_plain_byte};
 
 use super::id_set::IdSet;
 use mt_base::{List, NoMemory, Steps, Value};
@@ -55,6 +55,18 @@ pub(crate) fn mark_itself(alloc: Global, lexicon: &Lexicon, text: &Value) -> Res
     };
     marks.insert(id);
     Ok(marks)
+}
+
+/// The number of the one value that such a text accepts, which is itself, where the lexicon has it.
+pub(crate) fn own_number(lexicon: &Lexicon, text: &Value) -> Option<u32>
+    requires utf8 { IsUtf8 text.now }
+    requires plain { AllPass is_plain_byte text.now }
+    requires alone { IsPattern text.now }
+    requires whole { IsPattern (wrapped text.now) }
+    ensures { AcceptsJust text.now lexicon.now result }
+{
+    let _ascending = lexicon.len();
+    place_of(lexicon, text)
 }
 
 /// The number of a value.

@@ -1,4 +1,4 @@
-use Rattle.std.proofs.Common.{◌∙◌, ap, map, subst, IfOk, refl}
+use Rattle.std.proofs.Common.{subst, IfOk, refl}
 use Rattle.mt_pattern_spec.specs.Patterns.{MarksAccepted, finds, wrapped}
 use Rattle.mt_pattern.proofs.Accepted.{accepted, if_accepted}
 use Rattle.mt_pattern.proofs.build.WholePattern.ids.Goals as goal
