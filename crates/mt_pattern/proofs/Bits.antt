@@ -2,7 +2,7 @@
 use Rattle.std.proofs.Common.{◌≡◌, ◌≢◌, ℕ, zero, suc, ◌+◌, ◌-◌, ◌*◌, ◌/◌, ◌%◌, ◌^◌, ◌<◌, ◌≤◌, ◌==◌, ◌⊎◌, inl, inr, Bool, true, false, List, ◌∷◌, length, get_or, set, replicate, slice_get, Some, bit_and, bit_or, ◌↔◌, refl, sym, ◌∙◌, ap, ap₂, subst, cond, [], arith, w64}
 use Rattle.std.specs.Int.{bit_at}
 use Rattle.std.proofs.lemmas.Bool.{cases_eq, cases_lt}
-use Rattle.std.proofs.lemmas.List.{length-replicate, get_or-replicate, get_or-set_same, get_or-set_other, length-set, get_or_default, get_or_past}
+use Rattle.std.proofs.lemmas.List.{length-replicate, get_or-replicate, get_or-set_same, get_or-set_other, length-set, get_or_past}
 use Rattle.std.proofs.Math.Nat.{add-zero}
 use Rattle.std.proofs.lemmas.Option.{slice_get_within, slice_get-get_or, same_Some}
 use Rattle.std.proofs.lemmas.Nat.Bits.{bit_at-zero, bit_at-trailing_zeros, bit_at_above, shr_and_one, bit_at_set_same, bit_at_set_other}
@@ -136,12 +136,6 @@ is_bit words count id on =
     let same : is_set words (0 + id) ≡ true = cc in
     ap (is_set words) (sym z) ∙ same
 
-pub with_bit_of : (words : List ℕ) (count id word : ℕ) → AreMarks words count → id < count → word ≡ get_or words (id / 64) word →
-    set words (id / 64) (bit_or word (1 * 2 ^ (id % 64) % 2 ^ 64)) ≡ with_bit words id
-with_bit_of words count id word are l e =
-    let within : id / 64 < length words = omega (arith, are.room) in
-    ap (λ w. set words (id / 64) (bit_or w (1 * 2 ^ (id % 64) % 2 ^ 64))) (e ∙ get_or_default words (id / 64) word 0 within)
-
 -- what is read of the word of a number
 pub reads : (words seen : List ℕ) (count id word : ℕ) (marks : List Bool) → AreMarks words count → marks_from words 0 count ≡ marks → seen ≡ words → word ≡ get_or seen (id / 64) 0 →
     (bit_and (word / 2 ^ (id % 64)) 1 == 1) ≡ true ↔ slice_get marks id ≡ Some true
@@ -151,15 +145,6 @@ reads words seen count id word marks are view same e =
       λ h. ap (λ m. slice_get m id) (sym view) ∙ is_marked words count id are (sym here ∙ h),
       λ h. here ∙ is_bit words count id (ap (λ m. slice_get m id) view ∙ h),
     )
-
-pub reads_none : (words seen : List ℕ) (count id : ℕ) (marks : List Bool) → AreMarks words count → marks_from words 0 count ≡ marks → seen ≡ words → length seen ≤ id / 64 →
-    (false ≡ true) ↔ slice_get marks id ≡ Some true
-reads_none words seen count id marks are view same past = (
-  λ h. cc,
-  λ h.
-      let l : id < count = omega (arith, length-marks words 0 count, slice_get_within (marks_from words 0 count) id true (ap (λ m. slice_get m id) view ∙ h)) in
-      absurd (omega (arith, are.room, ap length same)),
-)
 
 -- ---- for `next_from`
 
@@ -267,11 +252,6 @@ pub no_later : (words : List ℕ) (count id word : ℕ) → AreMarks words count
 no_later words count id word are is none between = λ j after marked.
     let no = none_between words id word (j / 64 + 1) is none (λ place l _. between place l) j after (omega arith) in
     let yes = is_bit words count j marked in cc
-
-pub none_past : (words : List ℕ) (count id : ℕ) → AreMarks words count → length words ≤ id / 64 → NoneFrom (marks_from words 0 count) id
-none_past words count id are past = λ j after marked.
-    let l : j < count = omega (arith, length-marks words 0 count, slice_get_within (marks_from words 0 count) j true marked) in
-    absurd (omega (arith, are.room))
 
 -- ---- how many are in a set
 

@@ -4,14 +4,15 @@ ghost use Rattle.std.specs.Prelude.{◌≡◌, ◌↔◌, ◌<◌, ◌^◌, fals
 ghost use Rattle.mt_pattern.specs.Marks.{marks_from, AreMarks, IsNext, IsNextWord, NoneFrom, size_of};
 ghost use Rattle.std.specs.Bool.{OnTrue, OnFalse};
 
+use super::words::Words;
 use mt_base::NoMemory;
 use std::alloc::Global;
 use std::marker::Model;
 
-/// Some of the numbers below a count: a bit for each number, seen as the list of marks that say which are in the set.
+/// Some of the numbers below a count: a bit for each number, in no block of memory where they are few, seen as the list of marks that say which are in the set.
 #[derive(Debug, Drop)]
 pub struct IdSet {
-    words: Vec<u64>,
+    words: Words,
     count: u32,
     size: u32,
 }
@@ -22,9 +23,9 @@ impl Model for IdSet {
 
     ghost Value = { List Bool };
 
-    ghost view = { λ s. marks_from s.words.items 0 s.count };
+    ghost view = { λ s. marks_from s.words 0 s.count };
 
-    ghost invariant = { λ s. AreMarks s.words.items s.count × (s.size ≡ size_of (marks_from s.words.items 0 s.count)) };
+    ghost invariant = { λ s. AreMarks s.words s.count × (s.size ≡ size_of (marks_from s.words 0 s.count)) };
 }
 
 impl IdSet {
@@ -32,7 +33,7 @@ impl IdSet {
     pub fn new(alloc: Global, count: u32) -> Result<Self, NoMemory>
         ensures { IfOk result (λ made. made ≡ replicate count false) }
     {
-        let words = vec![in alloc; 0u64; count.div_ceil(64) as usize]?;
+        let words = Words::none(alloc, (count / 64) as usize)?;
         Ok(IdSet {
             words,
             count,
@@ -49,7 +50,7 @@ impl IdSet {
             return;
         }
         self.size += 1;
-        self.words[(id / 64) as usize] |= 1u64 << (id % 64);
+        self.words.set_bit((id / 64) as usize, id % 64);
     }
 
     /// Puts a number into the set where a condition holds. It takes no memory.
@@ -67,10 +68,7 @@ impl IdSet {
     pub fn has(&self, id: u32) -> bool
         ensures { IsTrue result ↔ slice_get self.now id ≡ Some true }
     {
-        match self.words.get((id / 64) as usize) {
-            Some(word) => word >> (id % 64) & 1 == 1,
-            None => false,
-        }
+        self.words.word((id / 64) as usize) >> (id % 64) & 1 == 1
     }
 
     /// How many numbers the set could hold: those below this count.
@@ -104,32 +102,31 @@ impl IdSet {
 }
 
 /// The least number from this one on whose bit is set.
-fn next_bit(words: &[u64], count: u32, id: u32) -> Option<u32>
+fn next_bit(words: &Words, count: u32, id: u32) -> Option<u32>
     requires { AreMarks words.now count }
     ensures found { IfSome result (λ found. IsNext (marks_from words.now 0 count) id found) }
     ensures none { IfNone result (NoneFrom (marks_from words.now 0 count) id) }
 {
     let place = (id / 64) as usize;
-    let rest = match words.get(place) {
-        Some(word) => word >> (id % 64),
-        None => return None,
-    };
+    let word = words.word(place);
+    let rest = word >> (id % 64);
     if rest != 0 {
         return Some(id + rest.trailing_zeros());
     }
     match next_word(words, place + 1) {
-        Some(at) => Some(64 * (at as u32) + words[at].trailing_zeros()),
+        Some(at) => Some(64 * (at as u32) + words.word(at).trailing_zeros()),
         None => None,
     }
 }
 
 /// The place of the first word from this place on that is not 0.
-fn next_word(words: &[u64], place: usize) -> Option<usize>
+fn next_word(words: &Words, place: usize) -> Option<usize>
     ensures found { IfSome result (λ at. IsNextWord words.now place at) }
+    ensures fits { IfSome result (λ at. get_or words.now at 0 < 2 ^ 64) }
     ensures none { IfNone result ((at : ℕ) → place ≤ at → get_or words.now at 0 ≡ 0) }
 {
     for at in place..words.len() {
-        if words[at] != 0 {
+        if words.word(at) != 0 {
             return Some(at);
         }
     }

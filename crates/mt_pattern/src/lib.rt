@@ -12,6 +12,7 @@ mod known;
 mod plain;
 mod regexes;
 mod shop;
+mod words;
 
 pub use build::{IdsError, WholePattern, ids};
 pub use fussy::FussyShop;
