@@ -1,5 +1,5 @@
 -- Entries at their places, found by their keys and changed.
-use Rattle.std.proofs.Common.{◌≡◌, ℕ, zero, suc, ◌+◌, ◌-◌, ◌<◌, ◌≤◌, Bool, true, false, Some, None, List, [], ◌∷◌, ◌++◌, length, get_or, take, slice_get, position, refl, sym, ap, subst, ◌∙◌, arith, true≢false, if◌then◌else◌, append-nil, nat_eq, ◌&&◌, eqb-true, ◌⊎◌, inl, inr}
+use Rattle.std.proofs.Common.{◌≡◌, ℕ, zero, suc, ◌+◌, ◌-◌, ◌<◌, ◌≤◌, Bool, true, Some, None, List, [], ◌∷◌, ◌++◌, length, get_or, slice_get, position, refl, sym, ap, subst, ◌∙◌, arith, true≢false, append-nil, nat_eq, ◌&&◌, eqb-true, ◌⊎◌, inl, inr}
 use Rattle.std.specs.List.{position_or_len, IsDistinct}
 use Rattle.std.specs.Map.{keys_of}
 use Rattle.std.proofs.lemmas.Bool.{cases_lt, cases_order, and_parts, and_from, eq-eqb}
@@ -9,7 +9,7 @@ use Rattle.std.proofs.lemmas.Option.{slice_get_within, get_or_from_slice_get, sl
 use Rattle.std.proofs.lemmas.Grind.{common_steps}
 use Rattle.std.proofs.lemmas.List.{get_or_push, get_or_append_left, length-append, map-append}
 use Rattle.std.proofs.lemmas.List.Elements.{All-nil, All-cons}
-use Rattle.indexmap.specs.IndexMap.{set_value_at, insert_entry}
+use Rattle.indexmap.specs.IndexMap.{set_value_at}
 use Rattle.std.proofs.lemmas.Map.Keys.{apart_from_distinct}
 use Rattle.mt_counts.specs.Tallies.{AreOnce, HasKeysBelow, IsAt, Grows, IsRaised}
 use Rattle.mt_counts.specs.Chains.{classes}
@@ -100,15 +100,6 @@ pair_exact g m k e =
 pub pair_passes : (g m : ℕ) → (nat_eq g g && nat_eq m m) ≡ true
 pair_passes g m = and_from (nat_eq g g) (nat_eq m m) (eq-eqb g g refl) (eq-eqb m m refl)
 
--- an entry whose key was nowhere goes behind the others
-pub inserted : {K : Type 0} (eq : K → K → Bool) (key : K) (es : List (K × ℕ)) (n : ℕ) → ((k : K) → eq key k ≡ true → k ≡ key) → ((place : ℕ) → IsAt es key place → ⊥) → insert_entry eq es key n ≡ es ++ (key, n) ∷ []
-inserted eq key [] n exact none = refl
-inserted {K} eq key (e ∷ es) n exact none = by (eq key e.0) refl (λ (_ : eq key e.0 ≡ false). inserted eq key es n exact (λ place at. none (suc place) (record { count = at.count; there = at.there })))
-  where
-    by : (b : Bool) → eq key e.0 ≡ b → (eq key e.0 ≡ false → insert_entry eq es key n ≡ es ++ (key, n) ∷ []) → insert_entry eq (e ∷ es) key n ≡ e ∷ (es ++ (key, n) ∷ [])
-    by true h rest = absurd (none 0 (record { count = e.1; there = ap (λ (k : K). Some (k, e.1)) (exact e.0 h) }))
-    by false h rest = ap (λ (b : Bool). if b then (e.0, n) ∷ es else e ∷ insert_entry eq es key n) h ∙ ap (λ (ys : List (K × ℕ)). e ∷ ys) (rest h)
-
 -- a new entry, and where it stands
 pub grows_one : {K : Type 0} (old new : List (K × ℕ)) (key : K) → new ≡ old ++ (key, 0) ∷ [] → Grows old new
 grows_one {K} old new key e = record { more = (key, 0) ∷ []; are = e; zeros = All-cons (λ (e : K × ℕ). e.1 ≡ 0) (key, 0) [] refl (All-nil (λ (e : K × ℕ). e.1 ≡ 0)) }
@@ -163,10 +154,3 @@ pushed_below old new group member g m e below l n key k at = by (cases_lt k (len
         let is : (group, member) ≡ key =
         ap (λ (x : (ℕ × ℕ) × ℕ). x.0) (sym (get_or_push old ((group, member), 0) (key, at.count) k last) ∙ get_or_from_slice_get (old ++ ((group, member), 0) ∷ []) k (key, at.count) (key, at.count) there) in
         (subst (λ (x : ℕ × ℕ). x.0 < g) is l, subst (λ (x : ℕ × ℕ). x.1 < m) is n)
-
-pub taken_back : (xs back : List ℕ) (y n : ℕ) → n ≡ length xs → back ≡ take n (xs ++ y ∷ []) → back ≡ xs
-taken_back xs back y n e f = f ∙ ap (λ (k : ℕ). take k (xs ++ y ∷ [])) e ∙ front xs y
-  where
-    front : (xs : List ℕ) (y : ℕ) → take (length xs) (xs ++ y ∷ []) ≡ xs
-    front [] y = refl
-    front (x ∷ xs) y = ap (λ (zs : List ℕ). x ∷ zs) (front xs y)

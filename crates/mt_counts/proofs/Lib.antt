@@ -1,3 +1,5 @@
+pub mod Hashing
+pub mod Placing
 pub mod Entries
 pub mod Chains
 pub mod Walks

@@ -1,3 +1,4 @@
+pub mod Hashing
 pub mod Names
 pub mod Totals
 pub mod Chains

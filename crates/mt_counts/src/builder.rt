@@ -47,7 +47,7 @@ impl Counting {
         ensures words { self.new.words ≡ self.old.words }
         ensures counted { HaveSame self.old.counted self.new.counted }
     {
-        self.tables.names.add(self.alloc, name)
+        self.tables.names.add_own(name.copy(self.alloc)?)
     }
 
     /// The number of a word.
@@ -58,6 +58,16 @@ impl Counting {
         ensures counted { HaveSame self.old.counted self.new.counted }
     {
         self.tables.words.add(self.alloc, word)
+    }
+
+    /// The number of a word, which is kept where it is new.
+    pub fn own_word(&mut self, word: Value) -> Result<u32, NoMemory>
+        ensures number { IfOk result (λ number. slice_get self.new.words number ≡ Some word) }
+        ensures names { self.new.names ≡ self.old.names }
+        ensures words { Begins self.old.words self.new.words }
+        ensures counted { HaveSame self.old.counted self.new.counted }
+    {
+        self.tables.words.add_own(word)
     }
 
     /// Counts that a name stands with a first and a second word. All counts together are fewer than 2^64; one more is refused as by want of memory.

@@ -5,6 +5,7 @@
 
 mod builder;
 mod counts;
+mod hasher;
 mod listing;
 mod lowering;
 mod names;

@@ -72,17 +72,20 @@ impl Names {
     {
         match self.find(value) {
             Some(number) => Ok(number),
-            None => self.push(value.copy(alloc)?),
+            None => self.add_own(value.copy(alloc)?),
         }
     }
 
-    /// Adds a text that may be new.
-    fn push(&mut self, value: Value) -> Result<u32, NoMemory>
+    /// The number of a text, which is kept where it is new.
+    pub(crate) fn add_own(&mut self, value: Value) -> Result<u32, NoMemory>
         ensures begins { Begins self.old self.new }
         ensures number { IfOk result (λ number. slice_get self.new number ≡ Some value) }
     {
         if self.values.len() >= u32::MAX as usize - 1 {
-            return Err(NoMemory);
+            return match self.find(&value) {
+                Some(number) => Ok(number),
+                None => Err(NoMemory),
+            };
         }
         match self.values.insert_full(value) {
             Ok((number, _)) => Ok(number as u32),

@@ -5,16 +5,18 @@ ghost use Rattle.std.specs.Map.{keys_of};
 ghost use Rattle.mt_counts.specs.Tallies.{AreAdded, AreBelow, AreMoved, AreOnce, Grows, HasKeysBelow, HasPlaced, HavePlaces, IsAt, IsCounted, IsPlaced, IsRaised, ListsOnce};
 ghost use Rattle.mt_counts.specs.Totals.{IsLowered, count_at, total_of_all};
 
+use super::hasher::PairHasher;
 use indexmap::IndexMap;
 use mt_base::NoMemory;
 use std::alloc::Global;
+use std::hash::BuildHasherDefault;
 use std::marker::Model;
 
 /// Counts by pairs of a group and a member, fewer than 2^32 of them. A pair keeps its place, counted from 0, also where its count is 0. The pairs of a group are
 /// found by a chain, from the last to the first.
 #[derive(Drop)]
 pub(crate) struct Tally {
-    counts: IndexMap<(u32, u32), u64>,
+    counts: IndexMap<(u32, u32), u64, BuildHasherDefault<PairHasher>>,
     belows: Vec<u32>,
     ends: Vec<u32>,
     sum: u64,
@@ -39,7 +41,7 @@ impl Tally {
         ensures { result ≡ [] }
     {
         Tally {
-            counts: IndexMap::new(alloc),
+            counts: IndexMap::with_hasher(alloc, BuildHasherDefault::new()),
             belows: Vec::new(alloc),
             ends: Vec::new(alloc),
             sum: 0,
@@ -102,34 +104,26 @@ impl Tally {
         ensures place { IfOk result (λ place. IsAt self.new (group, member) place) }
         ensures below { (groups members : ℕ) → HasKeysBelow groups members self.old → group < groups → member < members → HasKeysBelow groups members self.new }
     {
-        match self.find(group, member) {
-            Some(place) => Ok(place),
-            None => self.add(group, member),
+        if self.counts.len() >= u32::MAX as usize {
+            return match self.find(group, member) {
+                Some(place) => Ok(place),
+                None => Err(NoMemory),
+            };
         }
-    }
-
-    /// Adds a pair that has no place, with the count 0.
-    fn add(&mut self, group: u32, member: u32) -> Result<u32, NoMemory>
-        requires { (place : ℕ) → IsAt self.old (group, member) place → ⊥ }
-        ensures grows { Grows self.old self.new }
-        ensures place { IfOk result (λ place. IsAt self.new (group, member) place) }
-        ensures below { (groups members : ℕ) → HasKeysBelow groups members self.old → group < groups → member < members → HasKeysBelow groups members self.new }
-    {
-        let place = self.counts.len();
-        if place >= u32::MAX as usize {
-            return Err(NoMemory);
-        }
+        self.belows.reserve(1)?;
         make_room(&mut self.ends, group as usize)?;
-        self.belows.push(self.ends[group as usize])?;
-        match self.counts.insert((group, member), 0) {
-            Ok(_) => {}
-            Err(_) => {
-                self.belows.truncate(place);
-                return Err(NoMemory);
+        match self.counts.insert_full((group, member), 0) {
+            Ok((place, Some(count))) => {
+                self.counts[place] = count;
+                Ok(place as u32)
             }
+            Ok((place, None)) => {
+                self.belows.push_reserved(self.ends[group as usize]);
+                self.ends[group as usize] = place as u32 + 1;
+                Ok(place as u32)
+            }
+            Err(_) => Err(NoMemory),
         }
-        self.ends[group as usize] = place as u32 + 1;
-        Ok(place as u32)
     }
 
     /// Adds to the count at a place. It takes no memory.
