@@ -1,6 +1,6 @@
 //! Counts by pairs of numbers.
 
-ghost use Rattle.std.specs.Prelude.{◌≡◌, ℕ, ◌+◌, ◌-◌, ◌^◌, ◌<◌, ◌≤◌, [], length, slice_get, slice_index, Some, IfOk, IfSome, IfNone, IsFalse, IsTrue, OnErr, OnOk};
+ghost use Rattle.std.specs.Prelude.{◌≡◌, ℕ, ◌+◌, ◌-◌, ◌^◌, ◌<◌, ◌≤◌, [], length, slice_get, slice_index, Some, IfOk, IfSome, IfNone, IsFalse, IsTrue, OnErr, OnOk, vec_len, vec_capacity};
 ghost use Rattle.std.specs.Map.{keys_of};
 ghost use Rattle.mt_counts.specs.Tallies.{AreAdded, AreBelow, AreMoved, AreOnce, Grows, HasKeysBelow, HasPlaced, HavePlaces, IsAt, IsCounted, IsPlaced, IsRaised, ListsOnce};
 ghost use Rattle.mt_counts.specs.Totals.{IsLowered, count_at, total_of_all};
@@ -110,7 +110,7 @@ impl Tally {
                 None => Err(NoMemory),
             };
         }
-        self.belows.reserve(1)?;
+        make_place(&mut self.belows)?;
         make_room(&mut self.ends, group as usize)?;
         match self.counts.insert_full((group, member), 0) {
             Ok((place, Some(count))) => {
@@ -251,7 +251,19 @@ fn end_at(ends: &[u32], class: usize) -> u32
     if class < ends.len() { ends[class] } else { 0 }
 }
 
-/// Makes room for the end of a class.
+/// Makes room for one place more, at first for as many as a small table of keys has.
+fn make_place(belows: &mut Vec<u32>) -> Result<(), NoMemory>
+    ensures room { OnOk result (vec_len belows.new < vec_capacity belows.new) }
+    ensures same { belows.new.items ≡ belows.old.items }
+{
+    if belows.len() < belows.capacity() {
+        return Ok(());
+    }
+    belows.reserve(9)?;
+    Ok(())
+}
+
+/// Makes room for the end of a class, and for those of others that may follow.
 fn make_room(ends: &mut Vec<u32>, class: usize) -> Result<(), NoMemory>
     requires { class < 2 ^ 32 }
     ensures room { OnOk result (class < length ends.new.items) }
@@ -260,6 +272,6 @@ fn make_room(ends: &mut Vec<u32>, class: usize) -> Result<(), NoMemory>
     if class < ends.len() {
         return Ok(());
     }
-    ends.resize(class + 1, 0)?;
+    ends.resize(2 * (class + 1), 0)?;
     Ok(())
 }

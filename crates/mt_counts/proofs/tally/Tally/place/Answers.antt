@@ -9,8 +9,8 @@ use Rattle.mt_counts.proofs.Entries.{grows_none, grows_one, at_end, pair_exact, 
 use Rattle.mt_counts.proofs.Placing.{put_behind, place_behind, put_back, place_there}
 use Rattle.mt_counts.proofs.tally.Tally.place.Goals as goal
 
-pub returns-in_err-reserve-clause-below : goal.returns-in_err-reserve-clause-below
-returns-in_err-reserve-clause-below c = rw (← c.self.view_is) (λ groups members h l m. h)
+pub returns-in_err-make_place-clause-below : goal.returns-in_err-make_place-clause-below
+returns-in_err-make_place-clause-below c = rw (← c.self.view_is) (λ groups members h l m. h)
 
 pub returns-in_err-make_room-clause-below : goal.returns-in_err-make_room-clause-below
 returns-in_err-make_room-clause-below c = rw (← c.self.view_is) (λ groups members h l m. h)
@@ -29,7 +29,7 @@ pub invariant_of-self-in-Ok-default-Some : goal.invariant_of-self-in-Ok-default-
 invariant_of-self-in-Ok-default-Some c =
     let entries = c.self.inside.counts.entries in
     let chained = same_ends (classes entries) c.self.inside.belows.items c.self.inside.ends.items c.make_room.new.ends.items c.in_ok-make_room.ensures.same c.self.invariant.0 in
-    rw (put_as_before c, c.in_ok-reserve.ensures.items) (chained, c.self.invariant.1, c.self.invariant.2)
+    rw (put_as_before c, c.in_ok-make_place.ensures.same) (chained, c.self.invariant.1, c.self.invariant.2)
 
 pub returns-in-Ok-default-Some-clause-grows : goal.returns-in-Ok-default-Some-clause-grows
 returns-in-Ok-default-Some-clause-grows c = rw (put_as_before c, c.self.view_is) (grows_none c.args.self.now)
@@ -55,7 +55,7 @@ invariant_of-self-in-Ok-default-None c =
     let count = length-map entries (λ (e : (ℕ × ℕ) × ℕ). e.0.0) in
     let below = c.index.ensures ∙ get_or_default ends c.args.group c.index.result.now 0 room in
     let belows : c.push_reserved.new.self.items ≡ c.self.inside.belows.items ++ get_or ends c.args.group 0 ∷ [] =
-    c.push_reserved.ensures.items ∙ ap (λ (ns : List ℕ). ns ++ c.index.result.now ∷ []) c.in_ok-reserve.ensures.items ∙ ap (λ (n : ℕ). c.self.inside.belows.items ++ n ∷ []) below in (
+    c.push_reserved.ensures.items ∙ ap (λ (ns : List ℕ). ns ++ c.index.result.now ∷ []) c.in_ok-make_place.ensures.same ∙ ap (λ (n : ℕ). c.self.inside.belows.items ++ n ∷ []) below in (
       rw (classes-pushed entries news c.args.group c.args.member is, belows)
           (chained_more (classes entries) c.self.inside.belows.items ends c.args.group chained (c.in-Ok-default-None.place + 1) room (omega (arith, place, count))),
       omega (arith, more, c.len.ensures.len, c.if-len.false),
