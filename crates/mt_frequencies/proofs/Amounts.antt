@@ -1,24 +1,19 @@
 -- Counts by the numbers of a segment are counts of its values.
-use Rattle.std.proofs.Common.{◌≡◌, ℕ, zero, suc, ◌+◌, ◌-◌, ◌^◌, ◌<◌, ◌≤◌, ◌⊎◌, inl, inr, min, Bool, true, false, cond, nat_eq, nat_lt, ◌||◌, ℤ, pos, negsuc, Some, None, List, [], ◌∷◌, length, map, replicate, set, take, get_or, slice_get, refl, sym, ◌∙◌, ap, ap₂, subst, arith}
-use Rattle.std.specs.List.{IsDistinct, cons_option, list_any, sum_by}
+use Rattle.std.proofs.Common.{◌≡◌, ℕ, zero, suc, ◌+◌, ◌-◌, ◌^◌, ◌<◌, ◌≤◌, ◌⊎◌, inl, inr, Bool, true, false, cond, nat_eq, ◌||◌, ℤ, Some, List, [], ◌∷◌, length, map, replicate, set, take, get_or, slice_get, refl, sym, ◌∙◌, ap, ap₂, subst, arith}
+use Rattle.std.specs.List.{IsDistinct, list_any}
 use Rattle.std.specs.Str.{bytes_eq}
 use Rattle.std.specs.Cmp.Lexicographic.{pointwise, bytes_decides}
 use Rattle.std.proofs.lemmas.Bool.{cases_eq}
 use Rattle.std.proofs.lemmas.Option.{same_Some, slice_get-get_or, slice_get_within}
-use Rattle.std.proofs.lemmas.List.{get_or-set_same, get_or-set_other, get_or_default, length-set, length-take}
+use Rattle.std.proofs.lemmas.List.{get_or-set_same, get_or-set_other, get_or_default, length-take}
 use Rattle.std.proofs.lemmas.List.Sums.{sum_by_more}
 use Rattle.mt_text_spec.specs.Texts.{Span}
-use Rattle.mt_segment_spec.specs.Tables.{Tables, first_place, number_at, tables_at, token_count}
-use Rattle.mt_report_spec.specs.Near.{places_at}
-use Rattle.mt_reports.specs.Told.{told_tokens, told_value}
-use Rattle.mt_reports.proofs.Told.{text_behind}
-use Rattle.mt_frequencies.specs.declared.begins.Reach.{Reach}
+use Rattle.mt_segment_spec.specs.Tables.{Tables, number_at, tables_at}
+use Rattle.mt_reports.specs.Told.{told_value}
 use Rattle.mt_frequencies.specs.declared.tally.Count.{Count}
-use Rattle.mt_frequencies.specs.Amounts.{AreMore, HasAmounts, IsRaised, IsReach, amount_of, having, places_told, raised, values_told}
-use Rattle.mt_frequencies.specs.Distances.{left_size, right_size}
+use Rattle.mt_frequencies.specs.Amounts.{AreMore, HasAmounts, IsRaised, amount_of, having, places_told, raised, values_told}
 use Rattle.mt_frequencies.specs.Tallies.{IsTally, Tallied, count_of, counts_in}
 use Rattle.mt_frequencies.proofs.Counted.{count_at, count_set}
-use Rattle.mt_frequencies.proofs.Placed.{less, not_less}
 
 -- ## Counts by numbers
 

@@ -10,5 +10,6 @@ pub mod Places
 pub mod Texts
 pub mod Collocated
 pub mod Amounts
+pub mod Numbered
 pub mod Begun
 pub mod Reaches

@@ -1,11 +1,11 @@
 -- For which begins the places so far from them lie in their text.
-use Rattle.std.proofs.Common.{◌≡◌, ℕ, ◌+◌, ◌-◌, ◌^◌, ◌<◌, ◌≤◌, min, Bool, true, false, cond, nat_lt, ℤ, pos, negsuc, Some, None, List, [], ◌∷◌, length, map, refl, sym, ◌∙◌, ap, arith}
+use Rattle.std.proofs.Common.{◌≡◌, ℕ, ◌+◌, ◌-◌, ◌^◌, ◌<◌, ◌≤◌, min, Bool, true, false, cond, nat_lt, ℤ, pos, negsuc, Some, None, [], ◌∷◌, length, map, sym, ◌∙◌, ap, arith}
 use Rattle.std.specs.List.{cons_option}
 use Rattle.mt_segment_spec.specs.Tables.{Tables, first_place, token_count}
 use Rattle.mt_reports.specs.Told.{told_tokens}
 use Rattle.mt_reports.proofs.Told.{text_behind}
 use Rattle.mt_frequencies.specs.declared.begins.Reach.{Reach}
-use Rattle.mt_frequencies.specs.Amounts.{IsReach, places_told}
+use Rattle.mt_frequencies.specs.Amounts.{IsReach}
 use Rattle.mt_frequencies.specs.Distances.{left_size, right_size}
 use Rattle.mt_frequencies.proofs.Placed.{less, not_less}
 

@@ -4,3 +4,4 @@ pub mod Known
 pub mod Tokens
 pub mod Collocates
 pub mod Amounts
+pub mod Numbers

@@ -12,18 +12,21 @@ ghost use Rattle.mt_report_spec.specs.Held.{LieInSome, StandFor};
 ghost use Rattle.mt_report_spec.specs.Near.{near_begin, values_by};
 ghost use Rattle.mt_reports.specs.Places.{Stands};
 ghost use Rattle.mt_reports.specs.Told.{told_tokens};
+ghost use Rattle.mt_frequencies.specs.Numbers.{AreNumbersOf, IsPlace, number_in};
 ghost use Rattle.mt_frequencies.specs.Amounts.{AreMore, IsReach, amount_of, values_told, HasAmounts};
 ghost use Rattle.mt_frequencies.specs.Tallies.{IsTally, counts_in, no_count};
 
 use super::distances::{to_left, to_right};
 use super::joining::put_counts;
+use super::numbers::Numbers;
 use super::tally::Tally;
-use mt_base::{List, NoMemory, Span};
+use mt_base::{List, NoMemory, Span, Steps};
 use mt_reports::cursor::{Cursor, first, seek};
-use mt_reports::numbers::number_of;
 use mt_segment::Segment;
 use mt_segment_laws::{numbers_stand_for_values, tokens_stand_in_texts};
 use std::alloc::Global;
+use std::marker::Brand;
+use std::sync::ledger::{Blank, Ledger};
 
 /// The begins of spans of a text, from one on and before another, for which the places so far from them lie in the text, and the first of these places in the
 /// segment.
@@ -49,20 +52,27 @@ fn reach_of(segment: &Segment, text: u32, distance: i32) -> Reach
 }
 
 /// Counts the value that stands so far from a begin, if its place lies in the text.
-fn count_begin(segment: &Segment, attr: u16, reach: Reach, begin: u32, counts: &mut Vec<u32>)
-    requires attr { attr < length segment.now.attrs }
-    requires within { (one : ℕ) → reach.from ≤ one → one < reach.to → reach.place + (one - reach.from) < token_count segment.now }
+#[inline]
+fn count_begin<L: Ledger>(
+    numbers: &Numbers,
+    reach: Reach,
+    begin: u32,
+    counts: &mut [u32],
+    steps: &mut Steps<L>,
+)
+    requires there { (one : ℕ) → reach.from ≤ one → one < reach.to → IsPlace numbers.now (reach.place + (one - reach.from)) }
+    requires within { (one : ℕ) → reach.from ≤ one → one < reach.to → number_in numbers.now (reach.place + (one - reach.from)) < length counts.old }
     requires few_places { (one : ℕ) → reach.from ≤ one → one < reach.to → reach.place + (one - reach.from) < 2 ^ 32 }
-    requires count { length counts.old.items ≡ length (tables_at segment.now.attrs attr).lexicon }
-    requires few { (number : ℕ) → number < length counts.old.items → slice_index counts.old.items number < 2 ^ 32 - 1 }
-    ensures count { length counts.new.items ≡ length counts.old.items }
-    ensures few { (number : ℕ) → number < length counts.old.items → slice_index counts.new.items number ≤ slice_index counts.old.items number + 1 }
-    ensures counted { (text : ℕ) (distance : ℤ) → IsReach segment.now text distance reach → begin < told_tokens segment.now text → (value : Items ℕ) → amount_of (tables_at segment.now.attrs attr).lexicon counts.new.items value ≡ amount_of (tables_at segment.now.attrs attr).lexicon counts.old.items value + (if list_any (bytes_eq value) (values_told segment.now attr text distance begin) then 1 else 0) }
+    requires few { (number : ℕ) → number < length counts.old → slice_index counts.old number < 2 ^ 32 - 1 }
+    ensures count { length counts.new ≡ length counts.old }
+    ensures few { (number : ℕ) → number < length counts.old → slice_index counts.new number ≤ slice_index counts.old number + 1 }
+    ensures counted { (tables : Tables) (attr text : ℕ) (distance : ℤ) → IsReach tables text distance reach → AreNumbersOf tables attr numbers.now → length counts.old ≡ length (tables_at tables.attrs attr).lexicon → begin < told_tokens tables text
+        → (value : Items ℕ) → amount_of (tables_at tables.attrs attr).lexicon counts.new value ≡ amount_of (tables_at tables.attrs attr).lexicon counts.old value + (if list_any (bytes_eq value) (values_told tables attr text distance begin) then 1 else 0) }
 {
     if begin < reach.from || begin >= reach.to {
         return;
     }
-    let number = number_of(segment, attr, reach.place + (begin - reach.from));
+    let number = numbers.get(reach.place + (begin - reach.from), steps);
     counts[number as usize] += 1;
 }
 
@@ -91,11 +101,54 @@ fn count_text(
     ensures counted { (near : texts.Span → Items (Items ℕ)) → ((k : ℕ) (span : texts.Span) → from ≤ k → k < result → near (slice_index_or spans.now k span) ≡ values_told segment.now attr text distance (slice_index_or spans.now k span).begin)
         → AreMore (tables_at segment.now.attrs attr).lexicon near spans.now from result counts.old.items counts.new.items }
 {
+    count_by::<Brand>(
+        segment,
+        attr,
+        text,
+        distance,
+        spans,
+        from,
+        counts.as_mut_slice(),
+        Blank::new(1),
+    )
+}
+
+/// The same. The blank names a ledger for these steps alone.
+fn count_by<L: Ledger>(
+    segment: &Segment,
+    attr: u16,
+    text: u32,
+    distance: i32,
+    spans: &[Span],
+    from: usize,
+    counts: &mut [u32],
+    blank: Blank,
+) -> usize
+    requires name { blank.name ≡ L.name }
+    requires parts { blank.parts ≡ L.parts }
+    requires some { 0 < L.parts }
+    requires attr { attr < length segment.now.attrs }
+    requires text { text < length segment.now.texts }
+    requires from { from < length spans.now }
+    requires few_spans { length spans.now < 2 ^ 32 }
+    requires begins { (k : ℕ) (span : texts.Span) → from ≤ k → k < length spans.now → (slice_index_or spans.now k span).text ≡ (slice_index_or spans.now from span).text → (slice_index_or spans.now k span).begin < told_tokens segment.now text }
+    requires count { length counts.old ≡ length (tables_at segment.now.attrs attr).lexicon }
+    requires few { (number : ℕ) → number < length counts.old → slice_index counts.old number ≤ from }
+    ensures from { from < result }
+    ensures to { result ≤ length spans.now }
+    ensures text { (k : ℕ) (span : texts.Span) → from ≤ k → k < result → (slice_index_or spans.now k span).text ≡ (slice_index_or spans.now from span).text }
+    ensures count { length counts.new ≡ length counts.old }
+    ensures few { (number : ℕ) → number < length counts.old → slice_index counts.new number ≤ result }
+    ensures counted { (near : texts.Span → Items (Items ℕ)) → ((k : ℕ) (span : texts.Span) → from ≤ k → k < result → near (slice_index_or spans.now k span) ≡ values_told segment.now attr text distance (slice_index_or spans.now k span).begin)
+        → AreMore (tables_at segment.now.attrs attr).lexicon near spans.now from result counts.old counts.new }
+{
+    let mut steps = Steps::<L>::new(blank);
+    let numbers = Numbers::new(segment, attr);
     let reach = reach_of(segment, text, distance);
     let number = spans[from].text();
     let mut to = from;
     while to < spans.len() && spans[to].text() == number {
-        count_begin(segment, attr, reach, spans[to].begin(), counts);
+        count_begin(&numbers, reach, spans[to].begin(), counts, &mut steps);
         to += 1;
     }
     to

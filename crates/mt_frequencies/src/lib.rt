@@ -13,6 +13,7 @@ mod entry;
 mod frequencies;
 mod joining;
 mod lines;
+mod numbers;
 mod spans;
 mod tally;
 mod tokens;

@@ -1,5 +1,5 @@
 -- The spans of one segment more are counted.
-use Rattle.std.proofs.Common.{ℕ, ◌<◌, ◌≤◌, ℤ, List, length, take, w32, to_z, of_z, arith, sym, ap, subst, ◌∙◌}
+use Rattle.std.proofs.Common.{ℕ, ◌<◌, ◌≤◌, ℤ, List, length, w32, to_z, of_z, arith, sym, subst}
 use Rattle.std.proofs.lemmas.Int.{to_z-of_z}
 use Rattle.std.proofs.lemmas.List.{take_all}
 use Rattle.mt_text_spec.specs.Texts.{Span}

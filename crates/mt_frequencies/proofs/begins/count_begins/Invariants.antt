@@ -1,5 +1,5 @@
 -- The spans so far are counted.
-use Rattle.std.proofs.Common.{◌≡◌, ◌-◌, ◌≤◌, List, length, take}
+use Rattle.std.proofs.Common.{◌-◌, ◌≤◌, List, length, take}
 use Rattle.mt_text_spec.specs.Registries.{Registry}
 use Rattle.mt_match_spec.specs.Values.{Images}
 use Rattle.mt_corpus_spec.specs.Groups.{Group, corpus_of}

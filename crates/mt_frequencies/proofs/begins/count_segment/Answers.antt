@@ -1,5 +1,5 @@
 -- The spans of one text more are counted.
-use Rattle.std.proofs.Common.{ℕ, ◌≡◌, List, [], length, get_or, w32, ℤ, to_z, of_z, arith, ap, subst, ◌∙◌}
+use Rattle.std.proofs.Common.{ℕ, ◌≡◌, List, length, get_or, w32, ℤ, to_z, of_z, arith, ap, subst, ◌∙◌}
 use Rattle.std.proofs.lemmas.Int.{to_z-of_z}
 use Rattle.std.proofs.lemmas.List.{get_or_default}
 use Rattle.mt_text_spec.specs.Texts.{Span}
