@@ -13,7 +13,7 @@ ghost use Rattle.mt_segment.specs.Mappers.{AreCalled, AreThere, calls_due, calls
 use super::columns::base_tables;
 use super::mapped::map_by_name;
 use super::segment::Segment;
-use super::sorting::lexicon_of;
+use super::sorting::{Sorter, lexicon_of};
 use super::structs::all_instances;
 use super::table::{AttrTables, MappedTable, Numbers};
 use mt_base::{Attr, List, NoMemory, Registry, Strings, Text, Value};
@@ -87,27 +87,29 @@ fn all_base_tables(
     ensures { IfOk result (λ tables. HaveBases attrs.now texts.now tables.items (length attrs.now)) }
 {
     let mut tables = Vec::with_capacity(alloc, attrs.len())?;
+    let mut sorter = Sorter::new(alloc, tokens)?;
     let mut column = 0;
     for attr in attrs {
-        tables.push(first_tables(alloc, texts, attr, column, tokens)?)?;
+        tables.push(first_tables(alloc, texts, attr, column, tokens, &mut sorter)?)?;
         column += attr.is_base() as usize;
     }
     Ok(tables)
 }
 
 /// The tables of an attribute if it is a base attribute.
-fn first_tables(
+fn first_tables<'a>(
     alloc: Global,
-    texts: &[Text],
+    texts: &'a [Text],
     attr: &Attr,
     column: usize,
     tokens: usize,
+    sorter: &mut Sorter<'a>,
 ) -> Result<AttrTables, NoMemory>
     requires { total_tokens texts.now ≤ corpus_tokens_limit }
     ensures { IfOk result (λ tables. attr.now.base ≡ None → AreBaseTables (column_values column texts.now) tables) }
 {
     match attr.base() {
-        None => base_tables(alloc, texts, column, tokens),
+        None => base_tables(alloc, texts, column, tokens, sorter),
         Some(base) => Ok(unmade(alloc, base)),
     }
 }

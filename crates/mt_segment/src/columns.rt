@@ -6,24 +6,25 @@ ghost use Rattle.mt_segment_spec.specs.Tables.{AreBaseTables, column_values};
 
 use super::inverting::postings_of;
 use super::numbering::Numbering;
-use super::sorting::{FEW, sorted_tables};
+use super::sorting::{FEW, Sorter, sorted_tables};
 use super::table::{AttrTables, Column, Numbers};
 use mt_base::{NoMemory, Text};
 use std::alloc::Global;
 
 /// The tables of the base attribute that has this place among the base attributes. The number of tokens is known, and tells how much room is wanted, and which
-/// of two ways is the cheaper one.
-pub(crate) fn base_tables(
+/// of two ways is the cheaper one. What was in the sorter goes.
+pub(crate) fn base_tables<'a>(
     alloc: Global,
-    texts: &[Text],
+    texts: &'a [Text],
     column: usize,
     tokens: usize,
+    sorter: &mut Sorter<'a>,
 ) -> Result<AttrTables, NoMemory>
     requires { total_tokens texts.now ≤ corpus_tokens_limit }
     ensures { IfOk result (λ tables. AreBaseTables (column_values column texts.now) tables) }
 {
     if tokens <= FEW {
-        sorted_tables(alloc, texts, column, tokens)
+        sorted_tables(alloc, texts, column, sorter)
     } else {
         numbered_tables(alloc, texts, column, tokens)
     }

@@ -115,8 +115,8 @@ fn tables_of(
     })
 }
 
-/// The lexicon of the images of the values of a lexicon, and the number there of each image in order. The mapper is called once for each value; where memory runs
-/// out half-way, those calls are counted that were made.
+/// The lexicon of the images of the values of a lexicon, and the number there of each image in order. The mapper is called once for each value; where memory
+/// runs out half-way, those calls are counted that were made.
 fn image_numbers<M: Mapper>(
     alloc: Global,
     lexicon: &Lexicon,
@@ -166,7 +166,8 @@ fn bytes_of(lexicon: &Lexicon) -> usize {
     bytes
 }
 
-/// The images of the values of a lexicon, numbered as they are seen. The mapper is called once for each; where memory runs out half-way, those calls are counted that were made.
+/// The images of the values of a lexicon, numbered as they are seen. The mapper is called once for each; where memory runs out half-way, those calls are counted
+/// that were made.
 fn number_images<M: Mapper>(
     alloc: Global,
     lexicon: &Lexicon,
