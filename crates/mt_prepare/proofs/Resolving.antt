@@ -14,6 +14,7 @@ use Rattle.mt_store_spec.specs.Lexicons.{IsBelow, IsAscending}
 use Rattle.mt_segment_spec.specs.Tables.{Tables, tables_at, number_at, token_count}
 use Rattle.mt_eval_spec.specs.Told.{told_value}
 use Rattle.mt_segment_laws.specs.Laws.{AreWhole}
+use Rattle.mt_pattern.specs.Plain.{AcceptsJust}
 use Rattle.mt_prepare.specs.Asks.{Answers}
 use Rattle.mt_prepare.specs.Resolved.{Resolves}
 use Rattle.mt_prepare.specs.declared.resolved.Resolved.TheVariants as resolved
@@ -64,6 +65,11 @@ pub pattern_resolved : (tables : Tables) (attr : ℕ) (text : List ℕ) (negated
     Resolves tables (q.Pattern attr text negated) (resolved.Some attr ids negated)
 pattern_resolved tables attr text negated ids whole known marks = λ place l.
     unless_alike negated (marks.exactly (number_at tables attr place) (told_value tables attr place) (value_there tables attr place whole known l))
+
+pub number_resolved : (tables : Tables) (attr : ℕ) (text : List ℕ) (negated : Bool) (id : Option ℕ) → AreWhole tables → attr < length tables.attrs → AcceptsJust text (tables_at tables.attrs attr).lexicon id →
+    Resolves tables (q.Pattern attr text negated) (resolved.One attr id negated)
+number_resolved tables attr text negated id whole known just = λ place l.
+    unless_alike negated (just (number_at tables attr place) (told_value tables attr place) (value_there tables attr place whole known l))
 
 pub literal_resolved : (tables : Tables) (attr : ℕ) (text : List ℕ) (negated : Bool) (id : Option ℕ) → AreWhole tables → attr < length tables.attrs → IsAscending (tables_at tables.attrs attr).lexicon →
     IfSome id (λ id. slice_get (tables_at tables.attrs attr).lexicon id ≡ Some text) → IfNone id (¬ Contains (tables_at tables.attrs attr).lexicon text) →

@@ -1,6 +1,6 @@
 //! The patterns of a query, each built once.
 
-ghost use Rattle.std.specs.Prelude.{◌≡◌, ◌+◌, ◌<◌, ◌++◌, ◌∷◌, [], length, slice_index_or, IfOk, IfErr, OnOk, OnErr};
+ghost use Rattle.std.specs.Prelude.{◌≡◌, ◌+◌, ◌^◌, ◌<◌, ◌++◌, ◌∷◌, [], length, slice_index_or, IfOk, IfErr, OnOk, OnErr};
 ghost use Rattle.std.specs.List.{All};
 ghost use Rattle.mt_cql.specs.Shape.{test_shape, shape, filters_shape};
 ghost use Rattle.mt_pattern_spec.specs.Patterns.{MarksAccepted};
@@ -65,6 +65,16 @@ impl<P: PatternShop> Patterns<P> {
         patterns.add_expr(alloc, query.head(), shop)?;
         patterns.add_filters(alloc, query.filters(), shop)?;
         Ok(patterns)
+    }
+
+    /// The pattern with this number, counted from 0.
+    pub(crate) fn at(&self, i: usize) -> &WholePattern<P>
+        requires { i < length self.now }
+        ensures pattern { result.now ≡ slice_index_or self.now i [] }
+        ensures few { i + 1 < 2 ^ 64 }
+    {
+        let _few = self.built.len();
+        &self.built[i]
     }
 
     /// The numbers of the values of one lexicon that the pattern with this number, counted from 0, accepts.

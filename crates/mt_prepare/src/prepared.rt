@@ -81,7 +81,7 @@ impl<P: PatternShop> Patterns<P> {
         ensures finds { IsPlain query.now → FindEach segment.now (token_tests query.now.head) (steps.new - steps.old) }
     {
         let mut asked = 0;
-        let mut exprs = List::new(alloc);
+        let mut exprs = List::with_capacity(alloc, expr_count(query))?;
         let head = ready(alloc, segment, query.head(), self, &mut asked, shop, steps)?;
         exprs.push(head)?;
         add_operands(
@@ -138,6 +138,56 @@ fn add_operands<P: PatternShop, L: Ledger>(
     }
 }
 
+/// How many expressions a query has: its head and its operands.
+fn expr_count(query: &Query) -> usize {
+    operand_count(query.filters()).saturating_add(1)
+}
+
+/// How many operands filters have, so that there is room for just these at once.
+fn operand_count(filters: &Filters) -> usize {
+    match filters {
+        Filters::End => 0,
+        Filters::More(filter, others) => {
+            let own = operand_count(&filter.filters).saturating_add(1);
+            own.saturating_add(operand_count(others))
+        }
+    }
+}
+
+/// How many tests of tokens an expression has, so that there is room for just these at once.
+fn test_count(expr: &Expr) -> usize {
+    match expr {
+        Expr::Token { label: _, test: _ } => 1,
+        Expr::Begin { kind: _, test: _ } => 0,
+        Expr::End { kind: _ } => 0,
+        Expr::Whole { kind: _, test: _ } => 0,
+        Expr::Seq(left, right) => test_count(left).saturating_add(test_count(right)),
+        Expr::Choice(left, right) => test_count(left).saturating_add(test_count(right)),
+        Expr::Repeat {
+            inner,
+            least: _,
+            most: _,
+        } => test_count(inner),
+    }
+}
+
+/// How many tags an expression has, so that there is room for just these at once.
+fn tag_count(expr: &Expr) -> usize {
+    match expr {
+        Expr::Token { label: _, test: _ } => 0,
+        Expr::Begin { kind: _, test: _ } => 1,
+        Expr::End { kind: _ } => 1,
+        Expr::Whole { kind: _, test: _ } => 1,
+        Expr::Seq(left, right) => tag_count(left).saturating_add(tag_count(right)),
+        Expr::Choice(left, right) => tag_count(left).saturating_add(tag_count(right)),
+        Expr::Repeat {
+            inner,
+            least: _,
+            most: _,
+        } => tag_count(inner),
+    }
+}
+
 /// Makes an expression ready. Its patterns are the next ones of the query, behind those that were asked.
 fn ready<P: PatternShop, L: Ledger>(
     alloc: Global,
@@ -158,8 +208,8 @@ fn ready<P: PatternShop, L: Ledger>(
     ensures finds { AreEquals (shape expr.now) → FindEach segment.now (token_tests (shape expr.now)) (steps.new - steps.old) }
 {
     let mut ready = PreparedExpr {
-        tests: List::new(alloc),
-        tags: List::new(alloc),
+        tests: List::with_capacity(alloc, test_count(expr))?,
+        tags: List::with_capacity(alloc, tag_count(expr))?,
     };
     add_expr(
         alloc, segment, expr, patterns, asked, shop, steps, &mut ready,

@@ -40,6 +40,31 @@ pub(crate) fn spans_of_tag<P: PatternShop, L: Ledger>(
     ensures kept { P.refused shop.new ≡ P.refused shop.old }
     ensures rises { steps.old ≤ steps.new }
 {
+    match test {
+        Test::Any => spans_of_kind(alloc, segment, kind, steps),
+        _ => spans_judged(alloc, segment, kind, test, patterns, asked, shop, steps),
+    }
+}
+
+/// The same, each instance judged by the test. Its patterns are the next ones of the query, behind those that were asked.
+fn spans_judged<P: PatternShop, L: Ledger>(
+    alloc: Global,
+    segment: &Segment,
+    kind: u16,
+    test: &Test,
+    patterns: &mut Patterns<P>,
+    asked: &mut usize,
+    shop: &mut P,
+    steps: &mut Steps<L>,
+) -> Result<List<Span>, NoMemory>
+    requires known { HasKind segment.now kind }
+    requires stands { TestStands patterns.old asked.old (test_shape test.now) }
+    ensures spans { IfOk result (λ spans. AreSpansOf segment.now (record { kind = kind; test = test_shape test.now }) spans) }
+    ensures asked { OnOk result (asked.new ≡ asked.old + length (test_patterns (test_shape test.now))) }
+    ensures texts { patterns.new ≡ patterns.old }
+    ensures kept { P.refused shop.new ≡ P.refused shop.old }
+    ensures rises { steps.old ≤ steps.new }
+{
     let judge = judge_of(alloc, segment, kind, test, patterns, asked, shop)?;
     spans_of(alloc, segment, kind, &judge, steps)
 }
@@ -95,7 +120,7 @@ fn found<L: Ledger>(
     ensures found { IfOk result (λ spans. AddsFound (IsFoundBelow segment.now kind judge.now (length segment.now.texts)) [] spans.items) }
     ensures rises { steps.old ≤ steps.new }
 {
-    let mut spans = Vec::new(alloc);
+    let mut spans = Vec::with_capacity(alloc, sure_count(segment, kind, judge))?;
     for text in 0..segment.texts() {
         add_found(
             segment.structs_in(kind, text),
@@ -106,6 +131,16 @@ fn found<L: Ledger>(
         )?;
     }
     Ok(spans)
+}
+
+/// How many instances are found for sure, so that there is room for just these at once.
+fn sure_count(segment: &Segment, kind: u16, judge: &Judge<'_>) -> usize
+    requires { HasKind segment.now kind }
+{
+    match judge {
+        Judge::Any => segment.structs(kind).len(),
+        _ => 0,
+    }
 }
 
 /// Adds the spans of the instances in a text that are found.

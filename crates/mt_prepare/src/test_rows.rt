@@ -1,6 +1,6 @@
 //! Rows of tests: the places of a segment of which a test holds, as sets.
 
-ghost use Rattle.std.specs.Prelude.{◌≡◌, ℕ, ◌+◌, ◌*◌, ◌/◌, ◌<◌, ◌≤◌, ◌⊎◌, true, length, slice_get, slice_index, slice_index_or, Some, None, IfOk, OnOk};
+ghost use Rattle.std.specs.Prelude.{◌≡◌, ℕ, ◌+◌, ◌*◌, ◌/◌, ◌<◌, ◌≤◌, ◌⊎◌, true, length, slice_get, slice_index, slice_index_or, Some, None, IsTrue, IfOk, OnOk};
 ghost use Rattle.std.specs.List.{All, Contains};
 ghost use Rattle.mt_places.specs.Places.{In, HasJust, room};
 ghost use Rattle.mt_match_spec.specs.Tests.{Unless};
@@ -101,6 +101,53 @@ fn unless(pool: &mut Pool, not: bool, row: Places, tokens: u32) -> Result<Places
 
 /// The row of one value's places, by its number; none where there is no such value.
 fn one_row<L: Ledger>(
+    pool: &mut Pool,
+    segment: &Segment,
+    attr: u16,
+    id: Option<u32>,
+    steps: &mut Steps<L>,
+) -> Result<Places, NoMemory>
+    requires { attr < length segment.now.attrs }
+    ensures row { IfOk result (IsRow (token_count segment.now) (λ place. id ≡ Some (number_at segment.now attr place))) }
+    ensures rises { steps.old ≤ steps.new }
+{
+    if let Some(id) = id {
+        if is_short(segment, attr, id) {
+            return listed_row(pool, segment, attr, id, steps);
+        }
+    }
+    marked_row(pool, segment, attr, id, steps)
+}
+
+/// Whether a number is that of a value with a short posting list.
+fn is_short(segment: &Segment, attr: u16, id: u32) -> bool
+    requires { attr < length segment.now.attrs }
+    ensures { IsTrue result → id < length (tables_at segment.now.attrs attr).lexicon }
+{
+    id < segment.lexicon(attr).len() && segment.postings(attr, id).len() <= segment.tokens() / 2
+}
+
+/// The row of one value's places, from its posting list.
+fn listed_row<L: Ledger>(
+    pool: &mut Pool,
+    segment: &Segment,
+    attr: u16,
+    id: u32,
+    steps: &mut Steps<L>,
+) -> Result<Places, NoMemory>
+    requires attr { attr < length segment.now.attrs }
+    requires id { id < length (tables_at segment.now.attrs attr).lexicon }
+    ensures row { IfOk result (IsRow (token_count segment.now) (λ place. Some id ≡ Some (number_at segment.now attr place))) }
+    ensures rises { steps.old ≤ steps.new }
+{
+    numbers_stand_for_values();
+    let mut row = pool.none(row_width(segment.tokens()))?;
+    add_list(&mut row, segment.postings(attr, id), steps);
+    Ok(row)
+}
+
+/// The row of one value's places, by a set that has its number, or none where there is no such value.
+fn marked_row<L: Ledger>(
     pool: &mut Pool,
     segment: &Segment,
     attr: u16,

@@ -1,9 +1,11 @@
 //! Tests of tokens resolved in a segment.
 
-ghost use Rattle.std.specs.Prelude.{◌≡◌, ◌+◌, ◌-◌, ◌<◌, ◌≤◌, [], ◌∷◌, length, IfOk, OnOk};
+ghost use Rattle.std.specs.Prelude.{◌≡◌, ◌+◌, ◌-◌, ◌<◌, ◌≤◌, [], ◌∷◌, length, IfOk, IfSome, OnOk};
 ghost use Rattle.mt_text_spec.specs.Queries as q;
 ghost use Rattle.mt_cql.specs.Shape.{test_shape};
 ghost use Rattle.mt_eval_spec.specs.Asked.{test_patterns};
+ghost use Rattle.mt_pattern.specs.Plain.{AcceptsJust};
+ghost use Rattle.mt_segment_spec.specs.Tables.{tables_at};
 ghost use Rattle.mt_prepare.specs.Asks.{Answers, HasAttr, NamesOnly, StandsAt, TestStands};
 ghost use Rattle.mt_eval_spec.specs.Literals.{FindEach, IsEquals};
 ghost use Rattle.mt_prepare.specs.Prepared.{IsByNumber};
@@ -14,11 +16,14 @@ use super::patterns::Patterns;
 use super::resolved::Resolved;
 use mt_base::{NoMemory, Steps, Value};
 use mt_cql::Test;
-use mt_pattern::{IdSet, PatternShop};
+use mt_pattern::{IdSet, PatternShop, WholePattern};
 use mt_segment::Segment;
 use mt_segment_laws::tables_are_whole;
 use std::alloc::Global;
 use std::sync::ledger::Ledger;
+
+/// In a segment of so few tokens each value is looked for by its posting list, however many tokens have it.
+const FEW_TOKENS: u32 = 256;
 
 /// A test of tokens in a segment. Its patterns are the next ones of the query, behind those that were asked.
 pub(crate) fn resolved_test<P: PatternShop, L: Ledger>(
@@ -85,8 +90,65 @@ fn resolved_pattern<P: PatternShop>(
     ensures texts { patterns.new ≡ patterns.old }
     ensures kept { P.refused shop.new ≡ P.refused shop.old }
 {
+    if let Some(resolved) = by_number(segment, attr, patterns.at(*asked), not) {
+        *asked += 1;
+        return Ok(resolved);
+    }
     let ids = patterns.next_ids(alloc, asked, segment.lexicon(attr), shop)?;
     Ok(accepted(segment, attr, text, ids, not))
+}
+
+/// A pattern that accepts one value by the number of it, where its places are best found by its posting list.
+fn by_number<P: PatternShop>(
+    segment: &Segment,
+    attr: u16,
+    pattern: &WholePattern<P>,
+    not: bool,
+) -> Option<Resolved>
+    requires { attr < length segment.now.attrs }
+    ensures resolves { IfSome result (λ resolved. Resolves segment.now (q.Pattern attr pattern.now not) resolved) }
+    ensures attrs { IfSome result (λ resolved. HasAttrs segment.now resolved) }
+{
+    if !pattern.is_plain() {
+        return None;
+    }
+    let id = pattern.own_number(segment.lexicon(attr));
+    if is_listed(segment, attr, id) {
+        Some(numbered(segment, attr, pattern, id, not))
+    } else {
+        None
+    }
+}
+
+/// A pattern that accepts one value by this number of it.
+fn numbered<P: PatternShop>(
+    segment: &Segment,
+    attr: u16,
+    pattern: &WholePattern<P>,
+    id: Option<u32>,
+    not: bool,
+) -> Resolved
+    requires known { attr < length segment.now.attrs }
+    requires just { AcceptsJust pattern.now (tables_at segment.now.attrs attr).lexicon id }
+    ensures resolves { Resolves segment.now (q.Pattern attr pattern.now not) result }
+    ensures attrs { HasAttrs segment.now result }
+{
+    tables_are_whole();
+    let _valid = segment.texts();
+    Resolved::One { attr, id, not }
+}
+
+/// Whether the places of a value are best found by its posting list: the segment has few tokens, or few of them have the value.
+fn is_listed(segment: &Segment, attr: u16, id: Option<u32>) -> bool
+    requires { attr < length segment.now.attrs }
+{
+    if segment.tokens() <= FEW_TOKENS {
+        return true;
+    }
+    let Some(id) = id else {
+        return true;
+    };
+    id >= segment.lexicon(attr).len() || segment.postings(attr, id).len() <= segment.tokens() / 16
 }
 
 /// A pattern by the set of those numbers.

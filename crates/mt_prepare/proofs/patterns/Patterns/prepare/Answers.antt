@@ -1,4 +1,6 @@
-use Rattle.std.proofs.Common.{◌∙◌, arith}
+use Rattle.std.proofs.Common.{◌∙◌, refl, arith}
+use Rattle.mt_query_spec.specs.Contents.{token_tests}
+use Rattle.mt_prepare.proofs.Finding.{found_none}
 use Rattle.mt_prepare.proofs.Naming.{head_named, filters_named}
 use Rattle.mt_prepare.proofs.Standing.{head_stands, operands_stand}
 use Rattle.mt_prepare.proofs.Readying.{all_prepared}
@@ -20,5 +22,8 @@ add_operands-requires-clause-stands g c =
 
 pub returns-clause-prepared : goal.returns-clause-prepared
 returns-clause-prepared g c =
-    all_prepared c.args.segment.now c.args.query.now c.new-exprs.result c.push.new.self c.add_operands.new.exprs c.in_ok-head.head c.new-exprs.ensures c.in_ok-push.ensures.ok
+    all_prepared c.args.segment.now c.args.query.now c.in_ok-exprs.exprs c.push.new.self c.add_operands.new.exprs c.in_ok-head.head c.in_ok-exprs.ensures c.in_ok-push.ensures.ok
     (rw c.head.ensures at c.in_ok-head.ensures.ready) (rw c.filters.ensures at c.in_ok-add_operands.ensures.ready)
+
+pub returns-in_err-exprs-clause-finds : goal.returns-in_err-exprs-clause-finds
+returns-in_err-exprs-clause-finds g c = λ plain. found_none c.args.segment.now (token_tests c.args.query.now.head) c.args.steps.now c.args.steps.now refl

@@ -2,7 +2,7 @@ use Rattle.std.proofs.Common.{◌≡◌, ℕ, ◌≤◌, length, Some, ◌∙◌
 use Rattle.mt_places.specs.Places.{room}
 use Rattle.mt_segment_spec.specs.Tables.{number_at, tables_at, token_count}
 use Rattle.mt_prepare.proofs.Rows.{by_numbers}
-use Rattle.mt_prepare.proofs.test_rows.one_row.Goals as goal
+use Rattle.mt_prepare.proofs.test_rows.marked_row.Goals as goal
 
 pub returns-clause-row : goal.returns-clause-row
 returns-clause-row g c =
