@@ -126,7 +126,7 @@ fn word_at(
         return Ok(there);
     }
     let value = Value::new(words.alloc, words.value(number))?;
-    let there = counter.counting.word(&value)?;
+    let there = counter.counting.own_word(value)?;
     counter.words.set(number, there)?;
     Ok(there)
 }
