@@ -103,12 +103,13 @@ impl<W: Write> Sink for WriterSink<W> {
     }
 }
 
-/// The files of the folder in which the program starts.
+/// The files of the folder in which the program starts. What files are read by is kept from one to the next, so that many small ones cost no memory.
 #[derive(Drop)]
 pub struct FolderShelf<'a> {
     rt: &'a HostRuntime,
     alloc: Global,
     failed: List<Value>,
+    block: Vec<u8>,
 }
 
 impl<'a> FolderShelf<'a> {
@@ -121,6 +122,7 @@ impl<'a> FolderShelf<'a> {
             rt,
             alloc,
             failed: List::new(alloc),
+            block: Vec::new(alloc),
         }
     }
 }
@@ -139,7 +141,7 @@ impl Shelf for FolderShelf<'_> {
     ) -> Result<Loaded, ShelfError> {
         let failed = self.failed.len();
         self.failed.push(Value::new(alloc, name)?)?;
-        let loaded = load_file(self.rt, name, limit, out);
+        let loaded = load_file(self.rt, name, limit, &mut self.block, out);
         if loaded != Err(ShelfError::Failed) {
             self.failed.truncate(failed);
         }
@@ -164,12 +166,13 @@ fn load_file(
     rt: &HostRuntime,
     name: &str,
     limit: u32,
+    block: &mut Vec<u8>,
     out: &mut List<u8>,
 ) -> Result<Loaded, ShelfError>
     ensures { result ≡ Ok Loaded.Whole → length out.new ≤ limit }
 {
     match File::open(rt, name) {
-        Ok(mut file) => read_whole(rt.alloc(), &mut file, limit, out),
+        Ok(mut file) => read_whole(&mut file, limit, block, out),
         Err(error) if error.kind() == ErrorKind::NotFound => Ok(Loaded::Absent),
         Err(_) => Err(ShelfError::Failed),
     }
@@ -178,24 +181,24 @@ fn load_file(
 /// How many bytes are read at once.
 const BLOCK: usize = 262_144;
 
-/// Reads to the end, or one byte more than the limit.
+/// Reads to the end, or one byte more than the limit, by way of `block`, which takes memory only where it is not yet as large as is read at once.
 fn read_whole<R: Read>(
-    alloc: Global,
     reader: &mut R,
     limit: u32,
+    block: &mut Vec<u8>,
     out: &mut List<u8>,
 ) -> Result<Loaded, ShelfError>
     ensures within { result ≡ Ok Loaded.Whole → length out.new ≤ limit }
     ensures told { IfOk result (λ loaded. Told (R.remaining reader.old) (λ all.
         Finds (Some all) limit out.new loaded)) }
 {
-    let Ok(mut block) = vec![in alloc; 0u8; BLOCK] else {
+    let Ok(()) = block.resize(BLOCK, 0) else {
         return Err(ShelfError::NoMemory);
     };
     out.truncate(0);
     let mut room = limit as usize + 1;
     while room > 0 {
-        match read_block(reader, &mut block, room.min(BLOCK), out)? {
+        match read_block(reader, block, room.min(BLOCK), out)? {
             0 => return Ok(Loaded::Whole),
             n => room -= n,
         }
