@@ -44,11 +44,11 @@ in_spans [] row m = m
 in_spans (r ∷ rows) row (inl e) = inl (ap (λ (x : Row). x.span) e)
 in_spans (r ∷ rows) row (inr m) = inr (in_spans rows row m)
 
-record RowWith (rows : List Row) (span : Span) : Type 0 where
-  labels : List ℕ
-  member : Member (record { span = span; labels = labels }) rows
+pub record RowWith (rows : List Row) (span : Span) : Type 0 where
+  pub labels : List ℕ
+  pub member : Member (record { span = span; labels = labels }) rows
 
-row_with : (rows : List Row) (span : Span) → Member span (span_list rows) → RowWith rows span
+pub row_with : (rows : List Row) (span : Span) → Member span (span_list rows) → RowWith rows span
 row_with [] span m = absurd m
 row_with (r ∷ rows) span (inl e) = record { labels = r.labels; member = inl (λ i. record { span = e i; labels = r.labels }) }
 row_with (r ∷ rows) span (inr m) = let h = row_with rows span m in record { labels = h.labels; member = inr h.member }
@@ -61,7 +61,7 @@ tied Greater e = cc
 abbrev pub same : Span → Span → Bool
 same = eq_by_cmp span_cmp
 
-spans_listed : (rows : List Row) → IsStrictlySortedBy row_cmp rows → ListsAll span_cmp (IsSpanIn rows) (dedup same (span_list rows))
+pub spans_listed : (rows : List Row) → IsStrictlySortedBy row_cmp rows → ListsAll span_cmp (IsSpanIn rows) (dedup same (span_list rows))
 spans_listed rows s = record {
   ascending = IsStrictlySortedBy-dedup span_cmp_total (λ x y. refl) (span_list rows) (spans_sorted rows s);
   only = λ span c.

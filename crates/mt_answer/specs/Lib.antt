@@ -5,4 +5,5 @@ pub mod Errors
 pub mod Rows
 pub mod Given
 pub mod Reports
+pub mod QuerySpans
 pub mod Told

@@ -6,9 +6,10 @@ ghost use Rattle.mt_answer.specs.Reports.{HasReport};
 ghost use Rattle.mt_answer.specs.Rows.{HasImages};
 
 use super::declined::Declined;
+use super::query_spans::QuerySpans;
 use super::refusal::Refusal;
 use super::rows::query_rows;
-use mt_base::{List, NoMemory, Span};
+use mt_base::NoMemory;
 use mt_corpus::Corpus;
 use mt_match_laws::have_rows;
 use mt_pattern::PatternShop;
@@ -20,7 +21,7 @@ pub(crate) struct Report {
     /// The number of the attribute.
     pub(crate) attr: u16,
     /// The spans of the query, ascending.
-    pub(crate) spans: List<Span>,
+    pub(crate) spans: QuerySpans,
 }
 
 /// The attribute of a report and the spans of its query, or the first of its checks that stands: the attribute is not declared, or one of the query's own.
@@ -41,7 +42,7 @@ pub(crate) fn report_of<'a, P: PatternShop>(
         return Err(Declined::Refused(Refusal::UnknownName(attr)));
     };
     let rows = query_rows(alloc, corpus, cql, shop)?;
-    match rows.spans(alloc) {
+    match QuerySpans::of(alloc, rows) {
         Ok(spans) => Ok(Report {
             attr: number,
             spans,

@@ -16,5 +16,5 @@ returns-in-Ok-clause-report g c =
     has_report c.have_rows.ensures c.args.corpus.now c.args.attr.now c.args.cql.now c.in-Some.number c.in_ok-rows.rows c.in-Ok.spans c.requires (rw c.registry.ensures.registry at c.in-Some.ensures.found)
     c.in_ok-rows.ensures.rows c.in-Ok.ensures
 
-pub returns-clause-declined : goal.returns-clause-declined
-returns-clause-declined g c = spans_starve c.args.corpus.now c.args.attr.now c.args.cql.now _ _ c.in_ok-rows.ensures.shop
+pub returns-in-Err-clause-declined : goal.returns-in-Err-clause-declined
+returns-in-Err-clause-declined g c = spans_starve c.args.corpus.now c.args.attr.now c.args.cql.now _ _ c.in_ok-rows.ensures.shop
