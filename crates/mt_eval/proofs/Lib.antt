@@ -16,3 +16,4 @@ pub mod Few
 pub mod Sought
 pub mod Instances
 pub mod Spanned
+pub mod EachToken

@@ -5,3 +5,4 @@ pub mod Sequences
 pub mod Walks
 pub mod Rarest
 pub mod Spans
+pub mod Every

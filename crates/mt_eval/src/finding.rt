@@ -17,6 +17,7 @@ ghost use Rattle.mt_eval.specs.Runs.{AreTexts};
 ghost use Rattle.mt_eval.specs.Sequences.{AreTestsOf, IsOne, IsSequence, positions_of, test_at};
 ghost use Rattle.mt_eval.specs.Walks.{IsLeft, due, left_of};
 
+use super::every::is_any_alone;
 use super::rarest::{looked_by, positions};
 use super::scan::scan_text;
 use super::sequence::{Sequence, add_rows, is_sequence};
@@ -26,7 +27,7 @@ use mt_automaton::{Automaton, Pool, labels_stand};
 use mt_base::Steps;
 use mt_cql::{Expr, Query};
 use mt_eval_laws::{have_rows_in, no_more_than_all, places_are_listed};
-use mt_prepare::{Prepared, PreparedExpr, Sighted};
+use mt_prepare::{Prepared, PreparedExpr, Resolved, Sighted};
 use mt_rows::{EvalError, RowList, Rows};
 use mt_segment::Segment;
 use mt_segment_laws::tables_are_whole;
@@ -165,11 +166,12 @@ fn rows_by_scan<L: Ledger>(
     Ok(out)
 }
 
-/// Whether the tokens of a segment are looked at one after another for an expression: they are few, and it is one test of a token after another.
-fn is_scanned(segment: &Segment, expr: &Expr) -> bool
+/// Whether the tokens of a segment are looked at one after another for an expression: it is one test of a token after another, and they are few, or it is one test that
+/// holds of each of them.
+fn is_scanned(segment: &Segment, expr: &Expr, tests: &[Resolved]) -> bool
     ensures { IsTrue result → IsSequence (shape expr.now) }
 {
-    segment.tokens() <= FEW_TOKENS && is_sequence(expr)
+    (segment.tokens() <= FEW_TOKENS || is_any_alone(tests)) && is_sequence(expr)
 }
 
 /// The rows of an expression in the texts, where no posting list is gone through.
@@ -193,14 +195,11 @@ fn rows_by_places<L: Ledger>(
     if is_tag(expr) {
         return rows_by_spans(alloc, asked, expr, ready.tags.get(0).as_slice(), room);
     }
-    if !is_scanned(asked.segment, expr) {
+    let tests = ready.tests.as_slice();
+    if !is_scanned(asked.segment, expr, tests) {
         return rows_by_automaton(alloc, asked, expr, ready, room, steps);
     }
-    let sequence = Sequence {
-        expr,
-        tests: ready.tests.as_slice(),
-        by: 0,
-    };
+    let sequence = Sequence { expr, tests, by: 0 };
     rows_by_scan(alloc, asked, &sequence, room, steps)
 }
 

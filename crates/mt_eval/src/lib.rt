@@ -12,6 +12,7 @@ ghost use Rattle.mt_eval_spec.specs.RowsIn.{EachLeaves, KeptIn, SomePasses, head
 ghost use Rattle.mt_eval.specs.Runs.{AreTexts};
 
 mod conds;
+mod every;
 mod finding;
 mod kept;
 mod looks;

@@ -9,6 +9,7 @@ ghost use Rattle.mt_automaton.specs.RowsFrom.{IsRowOfText, HasLonger};
 ghost use Rattle.mt_rows.specs.Appends.{Appends};
 ghost use Rattle.mt_eval.specs.Sequences.{AreTestsOf, IsRowAt};
 
+use super::every::{add_tokens, is_any_alone, is_unlabelled};
 use super::looks::says;
 use super::sequence::{Sequence, add_at};
 use mt_base::Steps;
@@ -41,7 +42,7 @@ fn look_at<L: Ledger>(
 }
 
 /// Adds the rows of a sequence in a text. Each of the text's tokens is put to the test that the sequence is looked for by.
-pub(crate) fn scan_text<L: Ledger>(
+fn scan_tokens<L: Ledger>(
     sequence: &Sequence<'_>,
     segment: &Segment,
     text: u32,
@@ -64,4 +65,26 @@ pub(crate) fn scan_text<L: Ledger>(
         look_at(sequence, segment, text, place, left, steps, out)?;
     }
     Ok(())
+}
+
+/// Adds the rows of a sequence in a text. Each of the text's tokens is looked at, unless the sequence is a test alone that holds of every one.
+pub(crate) fn scan_text<L: Ledger>(
+    sequence: &Sequence<'_>,
+    segment: &Segment,
+    text: u32,
+    room: u32,
+    steps: &mut Steps<L>,
+    out: &mut Rows,
+) -> Result<(), EvalError>
+    requires text { text < length segment.now.texts }
+    requires tests { AreTestsOf segment.now (shape sequence.now.expr.now) sequence.now.tests.now }
+    requires by { sequence.now.by < length sequence.now.tests.now }
+    ensures ok { OnOk result (Appends (IsRowOfText (told segment.now text) (shape sequence.now.expr.now) text) room out.old out.new) }
+    ensures more { IsErrOf result EvalError.TooManyRows → HasLonger (IsRowOfText (told segment.now text) (shape sequence.now.expr.now) text) room }
+    ensures rises { steps.old ≤ steps.new }
+{
+    if is_any_alone(sequence.tests) && is_unlabelled(sequence.expr) {
+        return add_tokens(sequence, segment, text, room, out);
+    }
+    scan_tokens(sequence, segment, text, room, steps, out)
 }

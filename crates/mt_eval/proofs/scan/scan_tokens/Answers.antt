@@ -10,7 +10,7 @@ use Rattle.mt_automaton.specs.RowsFrom.{HasLonger, IsRowOfText}
 use Rattle.mt_eval_spec.specs.Told.{told}
 use Rattle.mt_eval.specs.Sequences.{IsRowBelow}
 use Rattle.mt_eval.proofs.Rowed.{all_rows, longer, next_place, none_yet}
-use Rattle.mt_eval.proofs.scan.scan_text.Goals as goal
+use Rattle.mt_eval.proofs.scan.scan_tokens.Goals as goal
 
 pub loop-place-init : goal.loop-place-init
 loop-place-init g c =

@@ -5,7 +5,7 @@ use Rattle.mt_text_spec.specs.Orders.{row_cmp}
 use Rattle.mt_match_spec.specs.Rows.{ListsAll}
 use Rattle.mt_cql.specs.Shape.{shape}
 use Rattle.mt_eval.specs.Sequences.{IsRowBelow}
-use Rattle.mt_eval.proofs.scan.scan_text.Given as goal
+use Rattle.mt_eval.proofs.scan.scan_tokens.Given as goal
 
 abbrev pub invariant-loop-place : goal.invariant-loop-place
 invariant-loop-place g l =
