@@ -17,3 +17,5 @@ pub mod Sought
 pub mod Instances
 pub mod Spanned
 pub mod EachToken
+pub mod OverGaps
+pub mod GapRows

@@ -70,7 +70,7 @@ made expr text begin end row span labels is at to set =
     let these : labels ≡ labels_from expr begin = set ∙ only_these (labels_from expr begin) (nine_labels expr begin) in
     is ∙ (λ i. record { span = (at ∙ ap (λ (n : ℕ). record { text = text; begin = begin; end = n }) to) i; labels = these i })
 
-begins_before : (r s : Row) → r.span.text ≡ s.span.text → r.span.begin < s.span.begin → row_cmp r s ≡ Less
+pub begins_before : (r s : Row) → r.span.text ≡ s.span.text → r.span.begin < s.span.begin → row_cmp r s ≡ Less
 begins_before r s e h =
     let rest = slice_cmp nat_cmp r.labels s.labels in
     let ends = nat_cmp r.span.end s.span.end in
@@ -82,7 +82,7 @@ pub nothing_ascends : IsStrictlySortedBy row_cmp []
 unfolding IsStrictlySortedBy
 nothing_ascends = tt
 
-one_ascends : (row : Row) → IsStrictlySortedBy row_cmp (row ∷ [])
+pub one_ascends : (row : Row) → IsStrictlySortedBy row_cmp (row ∷ [])
 unfolding IsStrictlySortedBy
 one_ascends row = (tt, tt)
 

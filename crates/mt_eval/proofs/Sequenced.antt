@@ -22,15 +22,15 @@ HoldFrom s (test ∷ tests) place = (place < s.tokens) × s.holds test place × 
 moved : (place n : ℕ) → place + suc n ≡ place + 1 + n
 moved place n = omega arith
 
-hold_both : (s : m.Sight) (a b : List q.Test) (place : ℕ) → HoldFrom s a place → HoldFrom s b (place + length a) → HoldFrom s (a ++ b) place
+pub hold_both : (s : m.Sight) (a b : List q.Test) (place : ℕ) → HoldFrom s a place → HoldFrom s b (place + length a) → HoldFrom s (a ++ b) place
 hold_both s [] b place x y = subst (HoldFrom s b) (let e : place + 0 ≡ place = omega arith in e) y
 hold_both s (test ∷ a) b place x y = (x.0, x.1, hold_both s a b (place + 1) x.2 (subst (HoldFrom s b) (moved place (length a)) y))
 
-hold_left : (s : m.Sight) (a b : List q.Test) (place : ℕ) → HoldFrom s (a ++ b) place → HoldFrom s a place
+pub hold_left : (s : m.Sight) (a b : List q.Test) (place : ℕ) → HoldFrom s (a ++ b) place → HoldFrom s a place
 hold_left s [] b place x = tt
 hold_left s (test ∷ a) b place x = (x.0, x.1, hold_left s a b (place + 1) x.2)
 
-hold_right : (s : m.Sight) (a b : List q.Test) (place : ℕ) → HoldFrom s (a ++ b) place → HoldFrom s b (place + length a)
+pub hold_right : (s : m.Sight) (a b : List q.Test) (place : ℕ) → HoldFrom s (a ++ b) place → HoldFrom s b (place + length a)
 hold_right s [] b place x = subst (HoldFrom s b) (let e : place ≡ place + 0 = omega arith in e) x
 hold_right s (test ∷ a) b place x = subst (HoldFrom s b) (sym (moved place (length a))) (hold_right s a b (place + 1) x.2)
 

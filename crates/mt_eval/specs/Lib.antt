@@ -6,3 +6,4 @@ pub mod Walks
 pub mod Rarest
 pub mod Spans
 pub mod Every
+pub mod Gapped

@@ -1,9 +1,10 @@
 //! The rows of one expression of a query.
 
-ghost use Rattle.std.specs.Prelude.{◌≡◌, ◌+◌, ◌-◌, ◌*◌, ◌<◌, ◌≤◌, [], length, IsTrue, IfOk, OnOk, IsErrOf};
+ghost use Rattle.std.specs.Prelude.{◌≡◌, ◌+◌, ◌-◌, ◌*◌, ◌<◌, ◌≤◌, [], length, IsTrue, IfOk, IfSome, OnOk, IsErrOf};
 ghost use Rattle.std.specs.List.{All};
 ghost use Rattle.mt_text_spec.specs.Texts as spec;
 ghost use Rattle.mt_text_spec.specs.Queries as q;
+ghost use Rattle.mt_query_spec.specs.Contents.{token_tests};
 ghost use Rattle.mt_cql.specs.Shape.{shape};
 ghost use Rattle.mt_automaton.specs.Compiled.{IsOf};
 ghost use Rattle.mt_automaton.specs.RowsFrom.{IsRowOfText, HasLonger};
@@ -15,9 +16,12 @@ ghost use Rattle.mt_eval_spec.specs.RowsIn.{PassesRoom, RowsIn, expr_at, heads};
 ghost use Rattle.mt_eval_spec.specs.Literals.{AreEquals, AreFew};
 ghost use Rattle.mt_eval.specs.Runs.{AreTexts};
 ghost use Rattle.mt_eval.specs.Sequences.{AreTestsOf, IsOne, IsSequence, positions_of, test_at};
+ghost use Rattle.mt_eval.specs.Gapped.{HasGap};
 ghost use Rattle.mt_eval.specs.Walks.{IsLeft, due, left_of};
 
 use super::every::is_any_alone;
+use super::gap::{Gap, around, gap_of};
+use super::gapped::rows_by_gap;
 use super::rarest::{looked_by, positions};
 use super::scan::scan_text;
 use super::sequence::{Sequence, add_rows, is_sequence};
@@ -37,6 +41,12 @@ use std::sync::ledger::Ledger;
 
 /// The tokens of a segment that are looked at one after another, for which an automaton would be made at greater cost.
 const FEW_TOKENS: u32 = 256;
+
+/// How many tokens a gap may have that is looked for at each of so few tokens.
+const SHORT_GAP: u32 = 3;
+
+/// How many it may have where there is only a quarter of them.
+const LONG_GAP: u32 = 15;
 
 /// What is asked: a query that is ready for a segment, of some texts of it.
 #[derive(Clone, Copy, Drop)]
@@ -174,6 +184,39 @@ fn is_scanned(segment: &Segment, expr: &Expr, tests: &[Resolved]) -> bool
     (segment.tokens() <= FEW_TOKENS || is_any_alone(tests)) && is_sequence(expr)
 }
 
+/// How many tokens a gap may have that is looked for at each of so many tokens.
+fn longest_gap(tokens: u32) -> u32
+    ensures { result < 4294967295 }
+{
+    if tokens <= FEW_TOKENS / 4 {
+        LONG_GAP
+    } else {
+        SHORT_GAP
+    }
+}
+
+/// The gap of an expression whose rows are looked for at each token: it is tests of tokens with one gap among them, the tokens are few, and the gap is short.
+fn short_gap(segment: &Segment, expr: &Expr, tests: &[Resolved]) -> Option<Gap>
+    requires many { length tests.now ≡ length (token_tests (shape expr.now)) }
+    ensures gap { IfSome result (λ gap. HasGap (shape expr.now) gap.before gap.least gap.most) }
+    ensures few { IfSome result (λ gap. gap.most < 4294967295) }
+{
+    let tokens = segment.tokens();
+    if tokens > FEW_TOKENS || tests.len() > FEW_TOKENS as usize {
+        return None;
+    }
+    match gap_of(expr) {
+        None => None,
+        Some(gap) => {
+            if gap.most <= longest_gap(tokens) {
+                Some(gap)
+            } else {
+                None
+            }
+        }
+    }
+}
+
 /// The rows of an expression in the texts, where no posting list is gone through.
 fn rows_by_places<L: Ledger>(
     alloc: Global,
@@ -196,11 +239,14 @@ fn rows_by_places<L: Ledger>(
         return rows_by_spans(alloc, asked, expr, ready.tags.get(0).as_slice(), room);
     }
     let tests = ready.tests.as_slice();
-    if !is_scanned(asked.segment, expr, tests) {
-        return rows_by_automaton(alloc, asked, expr, ready, room, steps);
+    if is_scanned(asked.segment, expr, tests) {
+        let sequence = Sequence { expr, tests, by: 0 };
+        return rows_by_scan(alloc, asked, &sequence, room, steps);
     }
-    let sequence = Sequence { expr, tests, by: 0 };
-    rows_by_scan(alloc, asked, &sequence, room, steps)
+    match short_gap(asked.segment, expr, tests) {
+        None => rows_by_automaton(alloc, asked, expr, ready, room, steps),
+        Some(gap) => rows_by_gap(alloc, asked, &around(expr, tests, gap), room, steps),
+    }
 }
 
 /// Adds the rows of a sequence in the texts, by the positions that are left.

@@ -14,6 +14,8 @@ ghost use Rattle.mt_eval.specs.Runs.{AreTexts};
 mod conds;
 mod every;
 mod finding;
+mod gap;
+mod gapped;
 mod kept;
 mod looks;
 mod rarest;

@@ -46,7 +46,7 @@ pub(crate) fn is_sequence(expr: &Expr) -> bool
 }
 
 /// A label set to a place, if it is not set yet; 0 is none.
-fn with_label(labels: [u32; 9], label: u8, place: u32) -> [u32; 9]
+pub(crate) fn with_label(labels: [u32; 9], label: u8, place: u32) -> [u32; 9]
     ensures { result ≡ united labels (labelled label place) }
 {
     let mut more = labels;
