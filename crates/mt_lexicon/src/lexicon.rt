@@ -29,8 +29,8 @@ impl Model for Lexicon {
 }
 
 impl Lexicon {
-    /// The lexicon with these values.
-    pub(crate) fn from_strings(values: Strings) -> Self
+    /// The lexicon with these values, of which the caller knows that they ascend. It compares none.
+    pub fn from_strings(values: Strings) -> Self
         requires few { length values < 2 ^ 32 }
         requires ascending { IsAscending values }
         ensures { result ≡ values }
