@@ -7,7 +7,7 @@ ghost use Rattle.mt_postings.specs.Kept.{IsEnd, AreEntries};
 ghost use Rattle.mt_postings.specs.declared.coded.Entry.{Entry};
 
 use super::places::Places;
-use super::writer::{BitWriter, delta_len};
+use super::writer::BitWriter;
 use mt_base::NoMemory;
 use std::alloc::Global;
 use std::marker::Model;
@@ -81,10 +81,10 @@ fn write(
     let mut entries = Vec::new(alloc);
     for position in more {
         let gap = *position - end.least + 1;
-        writer.put_delta(gap)?;
+        let bits = writer.put_counted(gap)?;
         end.count += 1;
         end.least = *position + 1;
-        end.bit += u64::from(delta_len(gap));
+        end.bit += u64::from(bits);
         note(&mut entries, end, *position)?;
     }
     Ok(entries)

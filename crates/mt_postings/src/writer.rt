@@ -80,6 +80,21 @@ fn push_word(bytes: &mut Vec<u8>, word: u64) -> Result<(), NoMemory>
     Ok(())
 }
 
+/// Makes room for a word. Where bits are held, there is room already.
+#[inline(always)]
+fn make_room(bytes: &mut Vec<u8>, held: u32) -> Result<(), NoMemory>
+    requires { 0 < held → vec_len bytes.old + 8 ≤ vec_capacity bytes.old }
+    ensures items { bytes.new.items ≡ bytes.old.items }
+    ensures room { OnOk result (vec_len bytes.new + 8 ≤ vec_capacity bytes.new) }
+    ensures kept { vec_len bytes.new ≡ vec_len bytes.old }
+    ensures capacity { vec_capacity bytes.old ≤ vec_capacity bytes.new }
+{
+    if held == 0 {
+        bytes.reserve(8)?;
+    }
+    Ok(())
+}
+
 impl BitWriter {
     /// No bits yet. It takes no memory.
     pub fn new(alloc: Global) -> Self
@@ -112,8 +127,22 @@ impl BitWriter {
         ensures ok { OnOk result (self.new ≡ self.old ++ delta n) }
         ensures err { OnErr result (self.new ≡ self.old) }
     {
+        self.put_counted(n)?;
+        Ok(())
+    }
+
+    /// Writes the code of a number, and gives how many bits it has. Without memory nothing is written.
+    #[inline(always)]
+    pub(crate) fn put_counted(&mut self, n: u32) -> Result<u32, NoMemory>
+        requires { 1 ≤ n }
+        ensures ok { OnOk result (self.new ≡ self.old ++ delta n) }
+        ensures err { OnErr result (self.new ≡ self.old) }
+        ensures count { IfOk result (λ count. count ≡ length (delta n)) }
+        ensures most { IfOk result (λ count. count ≤ 42) }
+    {
         let (word, count) = delta_word(n);
-        self.put(word, count)
+        self.put(word, count)?;
+        Ok(count)
     }
 
     /// Writes the lowest `count` bits of a word.
@@ -126,7 +155,7 @@ impl BitWriter {
     {
         let held = self.held + count;
         if held < 64 {
-            self.bytes.reserve(8)?;
+            make_room(&mut self.bytes, self.held)?;
             self.word = (self.word << count) + word;
             self.held = held;
         } else {

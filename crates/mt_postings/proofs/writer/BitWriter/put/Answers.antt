@@ -25,11 +25,11 @@ overflow_add-full c =
     let p = put_full c.self.inside.bytes.items held c.self.inside.word c.args.count c.args.word (held + c.args.count - 64) c.self.invariant.0 (omega arith) (omega arith) c.self.invariant.1 c.requires.fits in
     subst (λ x. Fits w64 (x + c.args.word / 2 ^ (held + c.args.count - 64))) (sym p.0) (omega arith)
 
-pub returns-in_ok-reserve-clause-ok : goal.returns-in_ok-reserve-clause-ok
-returns-in_ok-reserve-clause-ok c =
+pub returns-in_ok-make_room-clause-ok : goal.returns-in_ok-make_room-clause-ok
+returns-in_ok-make_room-clause-ok c =
     let held = c.self.inside.held in
     let p = put_more (bits c.self.inside.bytes.items) held c.self.inside.word c.args.count c.args.word c.if-held-lt64.true c.self.invariant.1 c.requires.fits in
-    ap (λ x. bits x ++ digits (held + c.args.count) (c.self.inside.word * 2 ^ c.args.count % 2 ^ 64 + c.args.word)) c.reserve.ensures.items ∙ ap (λ x. bits c.self.inside.bytes.items ++ digits (held + c.args.count) (x + c.args.word)) p.0 ∙ p.2 ∙ ap (λ x. x ++ digits c.args.count c.args.word) c.self.view_is
+    ap (λ x. bits x ++ digits (held + c.args.count) (c.self.inside.word * 2 ^ c.args.count % 2 ^ 64 + c.args.word)) c.make_room.ensures.items ∙ ap (λ x. bits c.self.inside.bytes.items ++ digits (held + c.args.count) (x + c.args.word)) p.0 ∙ p.2 ∙ ap (λ x. x ++ digits c.args.count c.args.word) c.self.view_is
 
 pub returns-in_ok-push_word-clause-ok : goal.returns-in_ok-push_word-clause-ok
 returns-in_ok-push_word-clause-ok c =
