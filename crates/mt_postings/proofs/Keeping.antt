@@ -1,7 +1,7 @@
 -- Lists that are kept as their codes: their codes tell them, and one may be added to.
-use Rattle.std.proofs.Common.{ℕ, zero, suc, ◌≡◌, ◌+◌, ◌-◌, ◌*◌, ◌/◌, ◌%◌, ◌<◌, ◌≤◌, Bool, true, false, List, [], ◌∷◌, ◌++◌, length, take, drop, get_or, replicate, refl, sym, ap, ◌∙◌, subst, inl, inr, arith, append_assoc}
-use Rattle.std.proofs.lemmas.Bool.{cases_lt, cases_order}
-use Rattle.std.proofs.lemmas.List.{length-append, length-replicate, append-nil, take_all, take-append-le, get_or_append_left, get_or_push, length_push, drop_at, take_at, length-drop, take-append-drop, length-take-le}
+use Rattle.std.proofs.Common.{ℕ, zero, suc, ◌≡◌, ◌+◌, ◌-◌, ◌*◌, ◌/◌, ◌%◌, ◌<◌, ◌≤◌, Bool, true, false, List, [], ◌∷◌, ◌++◌, length, take, drop, replicate, refl, sym, ap, ◌∙◌, subst, inl, inr, arith, append_assoc}
+use Rattle.std.proofs.lemmas.Bool.{cases_order}
+use Rattle.std.proofs.lemmas.List.{length-append, length-replicate, append-nil, take-append-le, get_or_append_left, length_push, drop_at, take_at, length-drop, take-append-drop, length-take-le}
 use Rattle.std.proofs.Math.Seq.{take-append-add}
 use Rattle.mt_store_spec.specs.Codes.{delta, bits}
 use Rattle.mt_store_spec.specs.Positions.{ArePositions, next_least, codes, IsCode}
@@ -94,7 +94,7 @@ follow_rest a b v = from_rest 0 a b (from_start (a ++ b) v)
 
 -- ---- entries
 
-entry_kept : (ps more : List ℕ) (place : ℕ) (e : Entry) → IsEntry ps place e → IsEntry (ps ++ more) place e
+pub entry_kept : (ps more : List ℕ) (place : ℕ) (e : Entry) → IsEntry ps place e → IsEntry (ps ++ more) place e
 entry_kept ps more place e h =
     let w = h.within in
     let n = length-append ps more in
@@ -102,37 +102,6 @@ entry_kept ps more place e h =
       within = omega arith;
       position_is = h.position_is ∙ sym (get_or_append_left ps more 0 place w);
       bit_is = h.bit_is ∙ ap (λ x. length (codes 0 x)) (sym (take-append-le (place + 1) ps more (omega arith)));
-    }
-
-pub entries_same : (ps : List ℕ) (p : ℕ) (es : List Entry) → ((length ps + 1) % 128 ≡ 0 → ⊥) → AreEntries ps es → AreEntries (ps ++ p ∷ []) es
-entries_same ps p es rest a =
-    let n = length_push ps p in
-    let m = a.number_is in
-    let t : (length ps + 1) / 128 ≡ length ps / 128 = elim (cases_order ((length ps + 1) % 128) 0) [
-      | inl z ↦ absurd (rest z)
-      | inr o ↦ omega arith
-    ] in
-    record { number_is = omega arith; each = λ k d l. entry_kept ps (p ∷ []) (128 * k + 127) (get_or es k d) (a.each k d l) }
-
-pub entries_more : (ps : List ℕ) (p : ℕ) (es : List Entry) (e : Entry) → (length ps + 1) % 128 ≡ 0 → e.position ≡ p → e.bit ≡ length (codes 0 (ps ++ p ∷ [])) → AreEntries ps es → AreEntries (ps ++ p ∷ []) (es ++ e ∷ [])
-entries_more ps p es e z at bit a =
-    let n = length_push ps p in
-    let m = a.number_is in
-    let k = length_push es e in
-    let place : length ps ≡ 128 * length es + 127 = omega arith in
-    let here : IsEntry (ps ++ p ∷ []) (128 * length es + 127) e = record {
-      within = omega arith;
-      position_is = at ∙ sym (get_or_push ps p 0 (128 * length es + 127) place);
-      bit_is = bit ∙ ap (λ x. length (codes 0 x)) (sym (take_all (128 * length es + 127 + 1) (ps ++ p ∷ []) (omega arith)));
-    } in
-    record {
-      number_is = omega arith;
-      each = λ i d l. elim (cases_lt i (length es)) [
-        | inl b ↦ subst (λ x. IsEntry (ps ++ p ∷ []) (128 * i + 127) x) (sym (get_or_append_left es (e ∷ []) d i b)) (entry_kept ps (p ∷ []) (128 * i + 127) (get_or es i d) (a.each i d b))
-        | inr g ↦
-            let same : length es ≡ i = omega arith in
-            subst (λ x. IsEntry (ps ++ p ∷ []) (128 * i + 127) x) (sym (get_or_push es e d i same)) (subst (λ j. IsEntry (ps ++ p ∷ []) (128 * j + 127) e) same here)
-      ];
     }
 
 pub no_entries : AreEntries [] []

@@ -1,7 +1,7 @@
 //! Long posting lists, kept as their codes.
 
-ghost use Rattle.std.specs.Prelude.{◌≡◌, ℕ, ◌+◌, ◌*◌, ◌<◌, ◌≤◌, List as Items, [], ◌∷◌, ◌++◌, length, drop, vec_len, vec_capacity, IfOk, OnOk, OnErr};
-ghost use Rattle.mt_store_spec.specs.Positions.{ArePositions, codes, IsCode};
+ghost use Rattle.std.specs.Prelude.{◌≡◌, ℕ, ◌+◌, ◌*◌, ◌%◌, ◌<◌, ◌≤◌, List as Items, [], ◌∷◌, ◌++◌, length, drop, vec_len, vec_capacity, IfOk, OnOk, OnErr};
+ghost use Rattle.mt_store_spec.specs.Positions.{ArePositions, next_least, codes, IsCode};
 ghost use Rattle.mt_postings.specs.Following.{Follow};
 ghost use Rattle.mt_postings.specs.Kept.{IsEnd, AreEntries};
 ghost use Rattle.mt_postings.specs.declared.coded.Entry.{Entry};
@@ -49,17 +49,47 @@ impl Model for Coded {
 }
 
 /// Adds an entry where the position that was passed last is a 128th.
-fn note(entries: &mut Vec<Entry>, end: &End, position: u32) -> Result<(), NoMemory>
-    ensures { OnOk result ((ps : Items ℕ) (before : Items Entry) → IsEnd (ps ++ position ∷ []) end.now.count end.now.least end.now.bit →
-        AreEntries ps (before ++ entries.old.items) → AreEntries (ps ++ position ∷ []) (before ++ entries.new.items)) }
+fn note(entries: &mut Vec<Entry>, end: &End) -> Result<(), NoMemory>
+    requires { 1 ≤ end.now.least }
+    ensures { OnOk result ((ps run : Items ℕ) (before : Items Entry) → 1 ≤ length run → length ps % 128 + length run ≤ 128 →
+        IsEnd (ps ++ run) end.now.count end.now.least end.now.bit →
+        AreEntries ps (before ++ entries.old.items) → AreEntries (ps ++ run) (before ++ entries.new.items)) }
 {
     if end.count % 128 == 0 {
         entries.push(Entry {
-            position,
+            position: end.least - 1,
             bit: end.bit,
         })?;
     }
     Ok(())
+}
+
+/// Writes the codes of positions that follow others.
+fn write_run(writer: &mut BitWriter, end: &mut End, run: &[u32]) -> Result<(), NoMemory>
+    requires follow { Follow end.old.least run.now }
+    requires few { end.old.count + length run.now < 4294967296 }
+    requires short { end.old.bit + 42 * length run.now < 18446744073709551616 }
+    ensures written { OnOk result (writer.new ≡ writer.old ++ codes end.old.least run.now) }
+    ensures count { OnOk result (end.new.count ≡ end.old.count + length run.now) }
+    ensures least { OnOk result (end.new.least ≡ next_least end.old.least run.now) }
+    ensures bit { OnOk result (end.new.bit ≡ end.old.bit + length (codes end.old.least run.now)) }
+    ensures most { OnOk result (end.new.bit ≤ end.old.bit + 42 * length run.now) }
+{
+    let (least, bits) = writer.put_gaps(end.least, run)?;
+    end.count += run.len() as u32;
+    end.least = least;
+    end.bit += bits;
+    Ok(())
+}
+
+/// How many of so many positions come up to the next 128th.
+fn run_len(count: u32, left: usize) -> usize
+    requires { 1 ≤ left }
+    ensures some { 1 ≤ result }
+    ensures within { result ≤ left }
+    ensures up_to { count % 128 + result ≤ 128 }
+{
+    left.min((128 - count % 128) as usize)
 }
 
 /// Writes the codes of positions that follow others, and gives their entries.
@@ -79,13 +109,12 @@ fn write(
         AreEntries ps before → AreEntries (ps ++ more.now) (before ++ entries.items)) }
 {
     let mut entries = Vec::new(alloc);
-    for position in more {
-        let gap = *position - end.least + 1;
-        let bits = writer.put_counted(gap)?;
-        end.count += 1;
-        end.least = *position + 1;
-        end.bit += u64::from(bits);
-        note(&mut entries, end, *position)?;
+    let mut rest = more;
+    while !rest.is_empty() {
+        let (run, later) = rest.split_at(run_len(end.count, rest.len()));
+        write_run(writer, end, run)?;
+        note(&mut entries, end)?;
+        rest = later;
     }
     Ok(entries)
 }

@@ -3,19 +3,26 @@
 ghost use Rattle.std.specs.Prelude.{◌≡◌, ℕ, ◌+◌, ◌*◌, ◌^◌, ◌<◌, ◌≤◌, Bool, false, List as Items, [], ◌++◌, length, take, replicate, vec_len, vec_capacity, IfOk, OnOk, OnErr};
 ghost use Rattle.std.specs.Int.{w64, to_be_bytes};
 ghost use Rattle.mt_store_spec.specs.Codes.{digits, delta, bits};
+ghost use Rattle.mt_store_spec.specs.Positions.{codes, next_least};
+ghost use Rattle.mt_postings.specs.Following.{Follow};
 
 use mt_base::{List, NoMemory};
 use std::alloc::Global;
 use std::marker::Model;
 
+/// The last bits, fewer than 64, in the lowest places of a word.
+#[derive(Clone, Copy, Drop)]
+struct Last {
+    word: u64,
+    /// How many bits `word` has.
+    held: u32,
+}
+
 /// Bits that are gathered into a word of 64 and go into the bytes a word at a time.
 #[derive(Drop)]
 pub struct BitWriter {
     bytes: Vec<u8>,
-    /// The last bits, in its lowest places.
-    word: u64,
-    /// How many bits `word` has.
-    held: u32,
+    last: Last,
 }
 
 impl Model for BitWriter {
@@ -24,9 +31,9 @@ impl Model for BitWriter {
 
     ghost Value = { List Bool };
 
-    ghost view = { λ w. bits w.bytes.items ++ digits w.held w.word };
+    ghost view = { λ w. bits w.bytes.items ++ digits w.last.held w.last.word };
 
-    ghost invariant = { λ w. (w.held < 64) × (w.word < 2 ^ w.held) × (0 < w.held → vec_len w.bytes + 8 ≤ vec_capacity w.bytes) };
+    ghost invariant = { λ w. (w.last.held < 64) × (w.last.word < 2 ^ w.last.held) × (0 < w.last.held → vec_len w.bytes + 8 ≤ vec_capacity w.bytes) };
 }
 
 /// The code of a number as the lowest bits of a word, and how many they are.
@@ -95,6 +102,71 @@ fn make_room(bytes: &mut Vec<u8>, held: u32) -> Result<(), NoMemory>
     Ok(())
 }
 
+/// Adds bits after the last ones, and gives what the last ones are then. Without memory nothing is added.
+#[inline(always)]
+fn add_bits(bytes: &mut Vec<u8>, last: Last, word: u64, count: u32) -> Result<Last, NoMemory>
+    requires below { last.held < 64 }
+    requires within { last.word < 2 ^ last.held }
+    requires room { vec_len bytes.old + 8 ≤ vec_capacity bytes.old }
+    requires fits { word < 2 ^ count }
+    requires few { count ≤ 42 }
+    ensures ok { IfOk result (λ now. bits bytes.new.items ++ digits now.held now.word ≡
+        (bits bytes.old.items ++ digits last.held last.word) ++ digits count word) }
+    ensures below { IfOk result (λ now. now.held < 64) }
+    ensures within { IfOk result (λ now. now.word < 2 ^ now.held) }
+    ensures err { OnErr result (bytes.new.items ≡ bytes.old.items) }
+    ensures room { vec_len bytes.new + 8 ≤ vec_capacity bytes.new }
+{
+    let held = last.held + count;
+    if held < 64 {
+        let more = (last.word << count) + word;
+        Ok(Last { word: more, held })
+    } else {
+        let rest = held - 64;
+        let full = (last.word << (64 - last.held)) + (word >> rest);
+        push_word(bytes, full)?;
+        let low = word & ((1 << rest) - 1);
+        Ok(Last {
+            word: low,
+            held: rest,
+        })
+    }
+}
+
+/// Adds the codes of positions that follow others: what the last bits are then, the least position that may follow
+/// these, and how many bits the codes have.
+fn add_gaps(
+    bytes: &mut Vec<u8>,
+    last: Last,
+    least: u32,
+    positions: &[u32],
+) -> Result<(Last, u32, u64), NoMemory>
+    requires below { last.held < 64 }
+    requires within { last.word < 2 ^ last.held }
+    requires room { vec_len bytes.old + 8 ≤ vec_capacity bytes.old }
+    requires follow { Follow least positions.now }
+    requires few { length positions.now < 4294967296 }
+    ensures ok { IfOk result (λ r. bits bytes.new.items ++ digits r.0.held r.0.word ≡
+        (bits bytes.old.items ++ digits last.held last.word) ++ codes least positions.now) }
+    ensures below { IfOk result (λ r. r.0.held < 64) }
+    ensures within { IfOk result (λ r. r.0.word < 2 ^ r.0.held) }
+    ensures next { IfOk result (λ r. r.1 ≡ next_least least positions.now) }
+    ensures count { IfOk result (λ r. r.2 ≡ length (codes least positions.now)) }
+    ensures most { IfOk result (λ r. r.2 ≤ 42 * length positions.now) }
+    ensures room { vec_len bytes.new + 8 ≤ vec_capacity bytes.new }
+{
+    let mut last = last;
+    let mut next = least;
+    let mut bits = 0;
+    for position in positions {
+        let (word, count) = delta_word(*position - next + 1);
+        last = add_bits(bytes, last, word, count)?;
+        next = *position + 1;
+        bits += u64::from(count);
+    }
+    Ok((last, next, bits))
+}
+
 impl BitWriter {
     /// No bits yet. It takes no memory.
     pub fn new(alloc: Global) -> Self
@@ -102,8 +174,7 @@ impl BitWriter {
     {
         BitWriter {
             bytes: Vec::new(alloc),
-            word: 0,
-            held: 0,
+            last: Last { word: 0, held: 0 },
         }
     }
 
@@ -115,8 +186,10 @@ impl BitWriter {
     {
         Ok(BitWriter {
             bytes: Vec::with_capacity(alloc, 8)?,
-            word: first_bits(bytes, count),
-            held: count,
+            last: Last {
+                word: first_bits(bytes, count),
+                held: count,
+            },
         })
     }
 
@@ -127,22 +200,8 @@ impl BitWriter {
         ensures ok { OnOk result (self.new ≡ self.old ++ delta n) }
         ensures err { OnErr result (self.new ≡ self.old) }
     {
-        self.put_counted(n)?;
-        Ok(())
-    }
-
-    /// Writes the code of a number, and gives how many bits it has. Without memory nothing is written.
-    #[inline(always)]
-    pub(crate) fn put_counted(&mut self, n: u32) -> Result<u32, NoMemory>
-        requires { 1 ≤ n }
-        ensures ok { OnOk result (self.new ≡ self.old ++ delta n) }
-        ensures err { OnErr result (self.new ≡ self.old) }
-        ensures count { IfOk result (λ count. count ≡ length (delta n)) }
-        ensures most { IfOk result (λ count. count ≤ 42) }
-    {
         let (word, count) = delta_word(n);
-        self.put(word, count)?;
-        Ok(count)
+        self.put(word, count)
     }
 
     /// Writes the lowest `count` bits of a word.
@@ -153,19 +212,24 @@ impl BitWriter {
         ensures ok { OnOk result (self.new ≡ self.old ++ digits count word) }
         ensures err { OnErr result (self.new ≡ self.old) }
     {
-        let held = self.held + count;
-        if held < 64 {
-            make_room(&mut self.bytes, self.held)?;
-            self.word = (self.word << count) + word;
-            self.held = held;
-        } else {
-            let rest = held - 64;
-            let full = (self.word << (64 - self.held)) + (word >> rest);
-            push_word(&mut self.bytes, full)?;
-            self.word = word & ((1 << rest) - 1);
-            self.held = rest;
-        }
+        make_room(&mut self.bytes, self.last.held)?;
+        self.last = add_bits(&mut self.bytes, self.last, word, count)?;
         Ok(())
+    }
+
+    /// Writes the codes of positions that follow others: the least that may follow these, and how many bits the codes have.
+    pub(crate) fn put_gaps(&mut self, least: u32, positions: &[u32]) -> Result<(u32, u64), NoMemory>
+        requires follow { Follow least positions.now }
+        requires few { length positions.now < 4294967296 }
+        ensures ok { OnOk result (self.new ≡ self.old ++ codes least positions.now) }
+        ensures next { IfOk result (λ r. r.0 ≡ next_least least positions.now) }
+        ensures count { IfOk result (λ r. r.1 ≡ length (codes least positions.now)) }
+        ensures most { IfOk result (λ r. r.1 ≤ 42 * length positions.now) }
+    {
+        make_room(&mut self.bytes, self.last.held)?;
+        let (last, next, bits) = add_gaps(&mut self.bytes, self.last, least, positions)?;
+        self.last = last;
+        Ok((next, bits))
     }
 
     /// The bytes of what was written, after as many zeros as fill the last byte. It takes no memory.
@@ -174,8 +238,7 @@ impl BitWriter {
     {
         let BitWriter {
             mut bytes,
-            word,
-            held,
+            last: Last { word, held },
         } = self;
         if held == 0 {
             return List::from_vec(bytes);
