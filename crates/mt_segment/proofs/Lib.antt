@@ -7,6 +7,7 @@ pub mod Instances
 pub mod Lookups
 pub mod Mappings
 pub mod Numbered
+pub mod Packed
 pub mod Parted
 pub mod Renumbered
 pub mod Runs

@@ -6,5 +6,6 @@ pub mod Lists
 pub mod Mappers
 pub mod Numbered
 pub mod Numbers
+pub mod Packed
 pub mod Parts
 pub mod Runs
