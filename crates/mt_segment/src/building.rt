@@ -13,11 +13,11 @@ ghost use Rattle.mt_segment.specs.Mappers.{AreCalled, AreThere, calls_due, calls
 use super::columns::base_tables;
 use super::mapped::map_by_name;
 use super::segment::Segment;
-use super::sorting::{Sorter, lexicon_of};
+use super::sorting::Sorter;
 use super::structs::all_instances;
 use super::table::{AttrTables, MappedTable, Numbers};
 use mt_base::{Attr, List, NoMemory, Registry, Strings, Text, Value};
-use mt_lexicon::have_one_lexicon;
+use mt_lexicon::{Lexicon, have_one_lexicon};
 use mt_mapper::Mapper;
 use std::alloc::Global;
 
@@ -117,7 +117,7 @@ fn first_tables<'a>(
 /// What stands for the tables of a mapped attribute until they are made. It takes no memory.
 fn unmade(alloc: Global, base: u16) -> AttrTables {
     AttrTables {
-        lexicon: lexicon_of(Strings::new(alloc)),
+        lexicon: Lexicon::from_strings(Strings::new(alloc)),
         numbers: Numbers::Mapped(base, MappedTable::new(List::new(alloc))),
         postings: List::new(alloc),
     }
