@@ -6,7 +6,6 @@
 
 mod drawing;
 mod instances;
-mod inverting;
 mod numbering;
 mod segment;
 

@@ -1,6 +1,7 @@
 //! The segment.
 
 ghost use Rattle.std.specs.Prelude.{◌≡◌, ℕ, ◌<◌, ◌≤◌, [], ◌∷◌, length, IfOk, List as Items};
+ghost use Rattle.std.specs.Thread.{IsSync};
 ghost use Rattle.mt_text_spec.specs.Registries.{ValidRegistry, standard_registry};
 ghost use Rattle.mt_text_spec.specs.Texts.{Token, ValidText, text_tokens_limit};
 ghost use Rattle.mt_generate_spec.specs.Generated.{generated_text};
@@ -10,14 +11,15 @@ ghost use Rattle.mt_generate_tables.specs.Joined.{tables_of};
 
 use super::drawing::{Draws, draw_tokens};
 use super::instances::instances;
-use super::inverting::postings_of;
 use super::numbering::{number_values, renumber};
 use mt_base::{List, NoMemory, Registry, StructSpan, Value};
 use mt_lexicon::Lexicon;
 use mt_postings::Postings;
-use mt_segment::{Column, Lists, Segment};
+use mt_segment::{Column, Lists, Segment, postings_of};
+use rayon::{current_num_threads, join};
 use std::alloc::Global;
 use std::marker::Model;
+use std::thread::Threads;
 
 /// The tables of a column.
 #[derive(Drop)]
@@ -36,8 +38,10 @@ impl Model for ColumnTables {
     ghost view = { λ t. record { base = None; lexicon = t.lexicon; numbers = t.column; postings = t.postings } };
 }
 
-/// The segment of the generated text of this name that has so many tokens drawn from the seed, under the standard registry. The text itself is not made.
-pub fn generated_segment(
+/// The segment of the generated text of this name that has so many tokens drawn from the seed, under the standard registry. The text itself is not made. The tables of
+/// many tokens are made by three threads, where the machine has them.
+pub fn generated_segment<R: Threads + Sync>(
+    rt: &R,
     alloc: Global,
     registry: &Registry,
     name: Value,
@@ -50,13 +54,69 @@ pub fn generated_segment(
     ensures { IfOk result (λ segment. (images : Items ℕ → Items ℕ → Items ℕ) → AreTablesOf images registry.now (generated_text name seed tokens ∷ []) segment) }
 {
     let draws = draw_tokens(alloc, seed, tokens)?;
-    let word = tables(alloc, &draws, 0)?;
-    let tag = tables(alloc, &draws, 1)?;
-    let lemma = tables(alloc, &draws, 2)?;
+    let (word, tag, lemma) = all_tables(rt, alloc, &draws)?;
     let structs = instances(alloc, &name, tokens)?;
     let mut texts = List::with_capacity(alloc, 1)?;
     texts.push((name, tokens))?;
-    join(alloc, registry, texts, structs, word, tag, lemma)
+    of_columns(alloc, registry, texts, structs, word, tag, lemma)
+}
+
+/// The tables of so many tokens take a millisecond or more, far longer than starting threads does.
+const MANY: usize = 1 << 16;
+
+/// The tables of all three columns of the tokens that were drawn.
+fn all_tables<R: Threads + Sync>(
+    rt: &R,
+    alloc: Global,
+    draws: &Draws,
+) -> Result<(ColumnTables, ColumnTables, ColumnTables), NoMemory>
+    requires numbered { (tokens : Items Token) × AreNumbered (tokens_in draws.now.seen.items) tokens draws.now.numbers.items }
+    requires few { length draws.now.numbers.items ≤ text_tokens_limit }
+    ensures word { IfOk result (λ all. (tokens : Items Token) → AreNumbered (tokens_in draws.now.seen.items) tokens draws.now.numbers.items → AreBaseTables (values_of 0 tokens) all.0) }
+    ensures tag { IfOk result (λ all. (tokens : Items Token) → AreNumbered (tokens_in draws.now.seen.items) tokens draws.now.numbers.items → AreBaseTables (values_of 1 tokens) all.1) }
+    ensures lemma { IfOk result (λ all. (tokens : Items Token) → AreNumbered (tokens_in draws.now.seen.items) tokens draws.now.numbers.items → AreBaseTables (values_of 2 tokens) all.2) }
+{
+    if draws.numbers.len() < MANY || current_num_threads(rt) < 2 {
+        let word = tables(alloc, draws, 0)?;
+        let tag = tables(alloc, draws, 1)?;
+        let lemma = tables(alloc, draws, 2)?;
+        return Ok((word, tag, lemma));
+    }
+    let first = move || -> Result<ColumnTables, NoMemory>
+        requires { ((tokens : Items Token) × AreNumbered (tokens_in draws.now.seen.items) tokens draws.now.numbers.items) × (length draws.now.numbers.items ≤ text_tokens_limit) }
+        ensures { IfOk result (λ tables. (tokens : Items Token) → AreNumbered (tokens_in draws.entry.now.seen.items) tokens draws.entry.now.numbers.items → AreBaseTables (values_of 0 tokens) tables) }
+    { tables(alloc, draws, 0) };
+    let others = move || -> Result<(ColumnTables, ColumnTables), NoMemory>
+        requires { IsSync R.row × ((tokens : Items Token) × AreNumbered (tokens_in draws.now.seen.items) tokens draws.now.numbers.items) × (length draws.now.numbers.items ≤ text_tokens_limit) }
+        ensures tag { IfOk result (λ pair. (tokens : Items Token) → AreNumbered (tokens_in draws.entry.now.seen.items) tokens draws.entry.now.numbers.items → AreBaseTables (values_of 1 tokens) pair.0) }
+        ensures lemma { IfOk result (λ pair. (tokens : Items Token) → AreNumbered (tokens_in draws.entry.now.seen.items) tokens draws.entry.now.numbers.items → AreBaseTables (values_of 2 tokens) pair.1) }
+    { last_tables(rt, alloc, draws) };
+    let (first, others) = join(rt, first, others);
+    let (tag, lemma) = others?;
+    Ok((first?, tag, lemma))
+}
+
+/// The tables of the tags and of the lemmas of the tokens that were drawn, made side by side.
+fn last_tables<R: Threads + Sync>(
+    rt: &R,
+    alloc: Global,
+    draws: &Draws,
+) -> Result<(ColumnTables, ColumnTables), NoMemory>
+    requires numbered { (tokens : Items Token) × AreNumbered (tokens_in draws.now.seen.items) tokens draws.now.numbers.items }
+    requires few { length draws.now.numbers.items ≤ text_tokens_limit }
+    ensures tag { IfOk result (λ pair. (tokens : Items Token) → AreNumbered (tokens_in draws.now.seen.items) tokens draws.now.numbers.items → AreBaseTables (values_of 1 tokens) pair.0) }
+    ensures lemma { IfOk result (λ pair. (tokens : Items Token) → AreNumbered (tokens_in draws.now.seen.items) tokens draws.now.numbers.items → AreBaseTables (values_of 2 tokens) pair.1) }
+{
+    let tag = move || -> Result<ColumnTables, NoMemory>
+        requires { ((tokens : Items Token) × AreNumbered (tokens_in draws.now.seen.items) tokens draws.now.numbers.items) × (length draws.now.numbers.items ≤ text_tokens_limit) }
+        ensures { IfOk result (λ tables. (tokens : Items Token) → AreNumbered (tokens_in draws.entry.now.seen.items) tokens draws.entry.now.numbers.items → AreBaseTables (values_of 1 tokens) tables) }
+    { tables(alloc, draws, 1) };
+    let lemma = move || -> Result<ColumnTables, NoMemory>
+        requires { ((tokens : Items Token) × AreNumbered (tokens_in draws.now.seen.items) tokens draws.now.numbers.items) × (length draws.now.numbers.items ≤ text_tokens_limit) }
+        ensures { IfOk result (λ tables. (tokens : Items Token) → AreNumbered (tokens_in draws.entry.now.seen.items) tokens draws.entry.now.numbers.items → AreBaseTables (values_of 2 tokens) tables) }
+    { tables(alloc, draws, 2) };
+    let (tag, lemma) = join(rt, tag, lemma);
+    Ok((tag?, lemma?))
 }
 
 /// The tables of a column of the tokens that were drawn.
@@ -78,7 +138,7 @@ fn tables(alloc: Global, draws: &Draws, column: usize) -> Result<ColumnTables, N
 }
 
 /// The segment of a text with these tables of its three columns.
-fn join(
+fn of_columns(
     alloc: Global,
     registry: &Registry,
     texts: List<(Value, u32)>,

@@ -99,7 +99,7 @@ impl<P: PatternShop, M: Mapper> Session<P, M> {
             }
             Command::Generate { name, seed, tokens } => {
                 self.state
-                    .generate(name, *seed, *tokens, &mut self.mappers, shop)
+                    .generate(rt, name, *seed, *tokens, &mut self.mappers, shop)
             }
             Command::Ask(ask) => self.state.answer(rt, ask, shop),
             Command::Grammar { file } => self.state.set_grammar(file, edge, shop),

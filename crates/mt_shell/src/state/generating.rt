@@ -23,11 +23,13 @@ use mt_generate_tables::generated_segment;
 use mt_mapper::Mapper;
 use mt_pattern::PatternShop;
 use mt_vertical::{no_text_with_fault, one_text};
+use std::thread::Threads;
 
 impl<P: PatternShop> State<P> {
     /// `generate`: holds the text that the generated vertical is, unless its name is taken.
-    pub fn generate<M: Mapper>(
+    pub fn generate<M: Mapper, R: Threads + Sync>(
         &mut self,
+        rt: &R,
         name: &Value,
         seed: u64,
         tokens: u32,
@@ -49,7 +51,7 @@ impl<P: PatternShop> State<P> {
             return refused(self.alloc, &Refusal::NameTaken(name.as_str()));
         }
         if self.needs_no_vertical(tokens) {
-            return self.keep_generated(name, seed, tokens, shop);
+            return self.keep_generated(rt, name, seed, tokens, shop);
         }
         let Ok(vertical) = generated(self.alloc, name.as_str(), seed, tokens) else {
             return Reply::NoMemory;
@@ -65,7 +67,14 @@ impl<P: PatternShop> State<P> {
     }
 
     /// Keeps the generated text under the standard registry, if there is room for it. Its segment is made without its vertical.
-    fn keep_generated(&mut self, name: &Value, seed: u64, tokens: u32, shop: &mut P) -> Reply
+    fn keep_generated<R: Threads + Sync>(
+        &mut self,
+        rt: &R,
+        name: &Value,
+        seed: u64,
+        tokens: u32,
+        shop: &mut P,
+    ) -> Reply
         ghost setting: { Setting }
         requires free { Holds self.old.held name.now → ⊥ }
         requires standard { self.old.held.registry ≡ standard_registry }
@@ -82,7 +91,7 @@ impl<P: PatternShop> State<P> {
             return Reply::NoMemory;
         };
         let registry = self.corpus.registry();
-        let Ok(segment) = generated_segment(self.alloc, registry, own_name, seed, tokens) else {
+        let Ok(segment) = generated_segment(rt, self.alloc, registry, own_name, seed, tokens) else {
             return Reply::NoMemory;
         };
         self.keep_made(tokens as usize, segment, shop)

@@ -5,8 +5,8 @@ use Rattle.mt_segment_spec.specs.Tables.{AreTablesOf}
 use Rattle.mt_generate_tables.proofs.Text.{are_its, valid_alone}
 use Rattle.mt_generate_tables.proofs.segment.generated_segment.Goals as goal
 
-pub join-requires : goal.join-requires
-join-requires c =
+pub of_columns-requires : goal.of_columns-requires
+of_columns-requires g c =
     let text = generated_text c.args.name c.args.seed c.args.tokens in
     let drawn = tokens_from c.args.seed 0 c.args.tokens in
     let heads = c.in_ok-push.ensures.ok ∙ ap (λ texts. texts ++ (c.args.name, c.args.tokens) ∷ []) c.in_ok-texts.ensures in
@@ -17,17 +17,17 @@ join-requires c =
         corpus = text ∷ [];
         texts = valid_alone c.args.registry.now text c.requires.text;
         some = omega arith;
-        are = rw c.requires.standard (are_its (λ name value. value) c.args.name c.args.seed c.args.tokens c.in_ok-word.word c.in_ok-tag.tag c.in_ok-lemma.lemma c.push.new.self c.in_ok-structs.structs heads c.in_ok-structs.ensures
-            (c.in_ok-word.ensures drawn c.in_ok-draws.ensures) (c.in_ok-tag.ensures drawn c.in_ok-draws.ensures) (c.in_ok-lemma.ensures drawn c.in_ok-draws.ensures));
+        are = rw c.requires.standard (are_its (λ name value. value) c.args.name c.args.seed c.args.tokens c.in_ok-word.word c.in_ok-word.tag c.in_ok-word.lemma c.push.new.self c.in_ok-structs.structs heads c.in_ok-structs.ensures
+            (c.in_ok-word.ensures.word drawn c.in_ok-draws.ensures) (c.in_ok-word.ensures.tag drawn c.in_ok-draws.ensures) (c.in_ok-word.ensures.lemma drawn c.in_ok-draws.ensures));
       };
     }
 
 pub returns : goal.returns
-returns c =
+returns g c =
     let text = generated_text c.args.name c.args.seed c.args.tokens in
     let drawn = tokens_from c.args.seed 0 c.args.tokens in
     let heads = c.in_ok-push.ensures.ok ∙ ap (λ texts. texts ++ (c.args.name, c.args.tokens) ∷ []) c.in_ok-texts.ensures in
-    IfOk-weaker c.join.result _ (λ segment. (images : List ℕ → List ℕ → List ℕ) → AreTablesOf images c.args.registry.now (text ∷ []) segment)
-    (λ segment is images. subst (AreTablesOf images c.args.registry.now (text ∷ [])) (sym is) (rw c.requires.standard (are_its images c.args.name c.args.seed c.args.tokens c.in_ok-word.word c.in_ok-tag.tag c.in_ok-lemma.lemma c.push.new.self c.in_ok-structs.structs heads c.in_ok-structs.ensures
-    (c.in_ok-word.ensures drawn c.in_ok-draws.ensures) (c.in_ok-tag.ensures drawn c.in_ok-draws.ensures) (c.in_ok-lemma.ensures drawn c.in_ok-draws.ensures))))
-    c.join.ensures
+    IfOk-weaker c.of_columns.result _ (λ segment. (images : List ℕ → List ℕ → List ℕ) → AreTablesOf images c.args.registry.now (text ∷ []) segment)
+    (λ segment is images. subst (AreTablesOf images c.args.registry.now (text ∷ [])) (sym is) (rw c.requires.standard (are_its images c.args.name c.args.seed c.args.tokens c.in_ok-word.word c.in_ok-word.tag c.in_ok-word.lemma c.push.new.self c.in_ok-structs.structs heads c.in_ok-structs.ensures
+    (c.in_ok-word.ensures.word drawn c.in_ok-draws.ensures) (c.in_ok-word.ensures.tag drawn c.in_ok-draws.ensures) (c.in_ok-word.ensures.lemma drawn c.in_ok-draws.ensures))))
+    c.of_columns.ensures

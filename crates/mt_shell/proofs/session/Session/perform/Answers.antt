@@ -16,10 +16,10 @@ add_text-requires-send-M g c = λ κs h. (h.0, (h.1.0, (h.1.1, (param_send 2 _ (
 pub add_file-requires-send-M : goal.add_file-requires-send-M
 add_file-requires-send-M g c = λ κs h. (h.0, (h.1.0, (h.1.1.0, (h.1.1.1, (param_send 2 _ (given_send 1 _ g.row.M c.requires.1.1.1.1.1.0), (said_names (Add c.in-Add.name c.in-Add.file) (rw c.in-Add.is at c.requires.1.1.1.1.1.1.1.0), c.requires.1.1.1.1.1.1.1.1))))))
 
-pub generate-requires-send-M : goal.generate-requires-send-M
-generate-requires-send-M g c = λ κs h. (
+pub generate-requires : goal.generate-requires
+generate-requires g c = λ κs h. (
   h.0,
-  (h.1.0, (h.1.1, (param_send 2 _ (given_send 1 _ g.row.M c.requires.1.1.1.1.1.0), (said_names (Generate c.in-Generate.name c.in-Generate.seed c.in-Generate.tokens) (rw c.in-Generate.is at c.requires.1.1.1.1.1.1.1.0), c.requires.1.1.1.1.1.1.1.1)))),
+  (h.1.0, (h.1.1.0, (h.1.1.1, (param_send 2 _ (given_send 1 _ g.row.M c.requires.1.1.1.1.1.0), (c.requires.1.1.1.1.1.1.0, (said_names (Generate c.in-Generate.name c.in-Generate.seed c.in-Generate.tokens) (rw c.in-Generate.is at c.requires.1.1.1.1.1.1.1.0), c.requires.1.1.1.1.1.1.1.1)))))),
 )
 
 pub returns-in-Text-clause-means : goal.returns-in-Text-clause-means

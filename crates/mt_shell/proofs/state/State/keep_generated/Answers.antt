@@ -10,7 +10,7 @@ use Rattle.mt_shell.proofs.Generating.{made_of, no_images, room_here, tokens_are
 use Rattle.mt_shell.proofs.Meanings.{not_true}
 use Rattle.mt_shell.proofs.state.State.keep_generated.Goals as goal
 
--- of the requires, behind those of the type parameter: 1.1.0 free, 1.1.1.0 standard, 1.1.1.1.0 valid, 1.1.1.1.1 taken
+-- of the requires, behind those of the type parameters: 1.1.1.1.0 free, 1.1.1.1.1.0 standard, 1.1.1.1.1.1.0 valid, 1.1.1.1.1.1.1 taken
 
 pub returns-then-is_full-clause-means : goal.returns-then-is_full-clause-means
 returns-then-is_full-clause-means g c =
@@ -25,15 +25,15 @@ pub returns-in_default-generated_segment-clause-means : goal.returns-in_default-
 returns-in_default-generated_segment-clause-means g c = kept_not g.setting c.args.self.now.held c.args.self.now.held (generated_text c.args.name.now c.args.seed c.args.tokens) refl
 
 pub generated_segment-requires-clause-standard : goal.generated_segment-requires-clause-standard
-generated_segment-requires-clause-standard g c = c.registry-registry.ensures.registry ∙ ap (λ (k : Kept). k.held.registry) c.self.view_is ∙ c.requires.1.1.1.0
+generated_segment-requires-clause-standard g c = λ κs h. c.registry-registry.ensures.registry ∙ ap (λ (k : Kept). k.held.registry) c.self.view_is ∙ c.requires.1.1.1.1.1.0
 
 pub generated_segment-requires-clause-registry : goal.generated_segment-requires-clause-registry
-generated_segment-requires-clause-registry g c = subst ValidRegistry (sym c.registry-registry.ensures.registry) c.registry-registry.ensures.valid
+generated_segment-requires-clause-registry g c = λ κs h. subst ValidRegistry (sym c.registry-registry.ensures.registry) c.registry-registry.ensures.valid
 
 pub generated_segment-requires-clause-text : goal.generated_segment-requires-clause-text
-generated_segment-requires-clause-text g c =
+generated_segment-requires-clause-text g c = λ κs h.
     let there = c.registry-registry.ensures.registry ∙ ap (λ (k : Kept). k.held.registry) c.self.view_is in
-    rw (there, c.in-Ok.ensures) c.requires.1.1.1.1.0
+    rw (there, c.in-Ok.ensures) c.requires.1.1.1.1.1.1.0
 
 pub keep_made-requires : goal.keep_made-requires
 keep_made-requires g c = λ κs h.
@@ -44,8 +44,8 @@ keep_made-requires g c = λ κs h.
       (
         h.1,
         (
-          record { text = text; may = may_keep c.args.self.now c.self.inside.accepted (grammar_of c.self.inside.rules) c.self.inside.corpus text c.in-Ok-generated_segment.segment c.self.view_is c.requires.1.1.1.1.0 c.requires.1.1.0 room made },
-          (no_images (images_of g.setting) c.args.self.now.held.registry c.in-Ok-generated_segment.segment c.requires.1.1.1.0, c.requires.1.1.1.1.1),
+          record { text = text; may = may_keep c.args.self.now c.self.inside.accepted (grammar_of c.self.inside.rules) c.self.inside.corpus text c.in-Ok-generated_segment.segment c.self.view_is c.requires.1.1.1.1.1.1.0 c.requires.1.1.1.1.0 room made },
+          (no_images (images_of g.setting) c.args.self.now.held.registry c.in-Ok-generated_segment.segment c.requires.1.1.1.1.1.0, c.requires.1.1.1.1.1.1.1),
         ),
       ),
     )
@@ -55,5 +55,5 @@ returns-clause-means g c =
     let text = generated_text c.args.name.now c.args.seed c.args.tokens in
     let room = room_here c.args.self.now c.self.inside.accepted (grammar_of c.self.inside.rules) c.self.inside.corpus c.args.name.now c.args.seed c.args.tokens c.self.view_is (λ full. not_true (c.if-is_full.ensures.1 full)) in
     let made = made_of c.self.inside.corpus.registry c.registry-registry.result.now c.args.name.now c.in-Ok.own_name c.args.seed c.args.tokens c.in-Ok-generated_segment.segment c.registry-registry.ensures.registry c.in-Ok.ensures c.in-Ok-generated_segment.ensures in
-    c.keep_made.ensures.means text (may_keep c.args.self.now c.self.inside.accepted (grammar_of c.self.inside.rules) c.self.inside.corpus text c.in-Ok-generated_segment.segment c.self.view_is c.requires.1.1.1.1.0 c.requires.1.1.0 room made)
+    c.keep_made.ensures.means text (may_keep c.args.self.now c.self.inside.accepted (grammar_of c.self.inside.rules) c.self.inside.corpus text c.in-Ok-generated_segment.segment c.self.view_is c.requires.1.1.1.1.1.1.0 c.requires.1.1.1.1.0 room made)
     (tokens_are c.args.name.now c.args.seed c.args.tokens)

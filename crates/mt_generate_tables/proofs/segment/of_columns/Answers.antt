@@ -2,7 +2,7 @@ use Rattle.std.proofs.Common.{◌≡◌}
 use Rattle.std.proofs.lemmas.Result.{IfOk-weaker}
 use Rattle.mt_generate_tables.specs.Joined.{tables_of}
 use Rattle.mt_generate_tables.proofs.Text.{parts_are}
-use Rattle.mt_generate_tables.proofs.segment.join.Goals as goal
+use Rattle.mt_generate_tables.proofs.segment.of_columns.Goals as goal
 
 pub of_tables-requires : goal.of_tables-requires
 of_tables-requires c = (
