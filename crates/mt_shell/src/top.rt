@@ -23,6 +23,7 @@ use mt_outside::{Failed, Shelf, Sink, SinkError, Source};
 use mt_pattern::PatternShop;
 use mt_words::{Options, WordsError, one_reading, read_words};
 use std::alloc::Global;
+use std::mem::forget;
 use std::thread::Threads;
 
 /// How a run ended.
@@ -50,7 +51,8 @@ const BLOCK: usize = 65_536;
 
 /// Answers the script that the source gives, or with a demo the demo's, and writes each reply before more is read.
 ///
-/// The words are those of the command line behind the program's name. They are good where they say options.
+/// The words are those of the command line behind the program's name. They are good where they say options. What the session holds at the end is not given back, since
+/// the program ends with it.
 pub fn run<P: PatternShop, M: Mapper, R: Threads + Sync, S: Source, K: Sink, F: Shelf>(
     rt: &R,
     alloc: Global,
@@ -188,7 +190,10 @@ fn answer_script<P: PatternShop, M: Mapper, R: Threads + Sync, S: Source, K: Sin
         return Status::NoMemory;
     };
     ends_are_answers();
-    converse_over(rt, &mut talk, &mut block, source, sink, shelf, shop)
+    let status = converse_over(rt, &mut talk, &mut block, source, sink, shelf, shop);
+    // The blocks of many small segments go with the program in far less time than it takes to give each of them back.
+    forget(talk);
+    status
 }
 
 /// Reads the script from the source and answers it to the sink, over the files of the shelf.

@@ -22,6 +22,7 @@ use mt_mapper::Mapper;
 use mt_pattern::PatternShop;
 use mt_registry::{RegistryError, one_registry_answer, read_registry};
 use mt_registry_laws::mappers_are_at_hand;
+use mt_rules::hold_none;
 use mt_session_laws::held_is_valid;
 use std::alloc::Global;
 
@@ -114,7 +115,7 @@ impl<P: PatternShop> State<P> {
         };
         keep_named(&registry, mappers);
         self.accepted = true;
-        self.rules = None;
+        hold_none(&mut self.rules);
         self.corpus = Corpus::new(self.alloc, registry);
         Reply::Lines(line)
     }

@@ -18,7 +18,7 @@ use super::State;
 use mt_answer::{Refusal, Reply, count_line, failed, refused};
 use mt_base::Value;
 use mt_pattern::PatternShop;
-use mt_rules::Rules;
+use mt_rules::{Rules, hold, let_go};
 use mt_session_laws::held_is_valid;
 
 impl<P: PatternShop> State<P> {
@@ -84,9 +84,10 @@ impl<P: PatternShop> State<P> {
     {
         held_is_valid();
         let Ok(line) = count_line(self.alloc, "ok", rules.relation_count()) else {
+            let_go(rules);
             return Reply::NoMemory;
         };
-        self.rules = Some(rules);
+        hold(&mut self.rules, rules);
         Reply::Lines(line)
     }
 }

@@ -13,13 +13,13 @@ returns-in_default-new-clause-ends g c = λ input h written k. nothing_read inpu
 
 pub returns-clause-one : goal.returns-clause-one
 returns-clause-one g c = λ done.
-    one_answer c.in-Ok-new.ensures.mappers (λ mappers. setting_of (named g.M.Mapper.called g.M.Mapper.image mappers.items)) c.ends_are_answers.ensures c.converse_over.result done _ _ c.converse_over.ensures.ends
+    one_answer c.in-Ok-new.ensures.mappers (λ mappers. setting_of (named g.M.Mapper.called g.M.Mapper.image mappers.items)) c.ends_are_answers.ensures c.converse_over-status.result done _ _ c.converse_over-status.ensures.ends
 
 pub returns-clause-complete : goal.returns-clause-complete
-returns-clause-complete g c = λ source sink input h short. complete_by c.converse_over.result input _ _ c.converse_over.ensures.good c.converse_over.ensures.faults c.converse_over.ensures.is_long h source sink short
+returns-clause-complete g c = λ source sink input h short. complete_by c.converse_over-status.result input _ _ c.converse_over-status.ensures.good c.converse_over-status.ensures.faults c.converse_over-status.ensures.is_long h source sink short
 
-pub converse_over-requires : goal.converse_over-requires
-converse_over-requires g c = λ κs h. (
+pub converse_over-status-requires : goal.converse_over-status-requires
+converse_over-status-requires g c = λ κs h. (
   h.0,
   (
     h.1.0,
