@@ -72,14 +72,13 @@ __attribute__((noreturn)) void _exit(int status) {
     __builtin_unreachable();
 }
 
-/* Counts a call, and says whether it is one that is to go wrong. */
+/* Counts a call, whichever thread makes it, and says whether it is one that is to go wrong. */
 static int is_hit(enum call call) {
     if (!started) return 0;
-    calls[call]++;
-    if ((int)call != failing || calls[call] < at || calls[call] - at >= count) return 0;
-    if (!told) {
+    unsigned long number = __atomic_add_fetch(&calls[call], 1, __ATOMIC_RELAXED);
+    if ((int)call != failing || number < at || number - at >= count) return 0;
+    if (!__atomic_exchange_n(&told, 1, __ATOMIC_RELAXED)) {
         char line[100];
-        told = 1;
         tell(line, snprintf(line, sizeof line, "fault %lu %lu\n", bytes_read, bytes_written));
     }
     return 1;
