@@ -75,8 +75,8 @@ __attribute__((noreturn)) void _exit(int status) {
 /* Counts a call, whichever thread makes it, and says whether it is one that is to go wrong. */
 static int is_hit(enum call call) {
     if (!started) return 0;
-    unsigned long number = __atomic_add_fetch(&calls[call], 1, __ATOMIC_RELAXED);
-    if ((int)call != failing || number < at || number - at >= count) return 0;
+    unsigned long nth = __atomic_add_fetch(&calls[call], 1, __ATOMIC_RELAXED);
+    if ((int)call != failing || nth < at || nth - at >= count) return 0;
     if (!__atomic_exchange_n(&told, 1, __ATOMIC_RELAXED)) {
         char line[100];
         tell(line, snprintf(line, sizeof line, "fault %lu %lu\n", bytes_read, bytes_written));
