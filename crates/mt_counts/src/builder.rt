@@ -40,6 +40,15 @@ impl Counting {
         }
     }
 
+    /// Nothing is counted. What these counts had goes, and others take its memory. It costs by the room that they have.
+    pub fn reusing(alloc: Global, counts: Counts) -> Self
+        ensures { result ≡ record { names = []; words = []; counted = record { both = []; first = []; second = []; alone = [] } } }
+    {
+        let mut tables = counts.tables;
+        tables.clear();
+        Counting { alloc, tables }
+    }
+
     /// The number of a name.
     pub fn name(&mut self, name: &Value) -> Result<u32, NoMemory>
         ensures number { IfOk result (λ number. slice_get self.new.names number ≡ Some name.now) }
@@ -47,17 +56,7 @@ impl Counting {
         ensures words { self.new.words ≡ self.old.words }
         ensures counted { HaveSame self.old.counted self.new.counted }
     {
-        self.tables.names.add_own(name.copy(self.alloc)?)
-    }
-
-    /// The number of a word.
-    pub fn word(&mut self, word: &Value) -> Result<u32, NoMemory>
-        ensures number { IfOk result (λ number. slice_get self.new.words number ≡ Some word.now) }
-        ensures names { self.new.names ≡ self.old.names }
-        ensures words { Begins self.old.words self.new.words }
-        ensures counted { HaveSame self.old.counted self.new.counted }
-    {
-        self.tables.words.add(self.alloc, word)
+        self.tables.names.add(self.alloc, name)
     }
 
     /// The number of a word, which is kept where it is new.

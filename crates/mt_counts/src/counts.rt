@@ -11,6 +11,9 @@ use mt_base::NoMemory;
 use std::alloc::Global;
 use std::marker::Model;
 
+/// The most words, and the most pairs of a row and a second word, that small tables have.
+const SMALL: usize = 256;
+
 /// How often names stand with words. A count stands under numbers of its name and words, which are each kept once.
 #[derive(Drop)]
 pub struct Counts {
@@ -36,6 +39,11 @@ impl Counts {
         Counts {
             tables: Tables::new(alloc),
         }
+    }
+
+    /// Whether there are so few of them that their memory may well be kept for others.
+    pub fn is_small(&self) -> bool {
+        self.tables.words.len() <= SMALL && self.tables.both.len() <= SMALL
     }
 
     /// Adds the counts of another table, at the cost of what that one has. Out of memory, or where all counts together would be 2^64 or more, each count is as it was.

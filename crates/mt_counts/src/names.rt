@@ -34,6 +34,13 @@ impl Names {
         }
     }
 
+    /// Takes all texts away, and keeps the memory for others.
+    pub(crate) fn clear(&mut self)
+        ensures { self.new ≡ [] }
+    {
+        self.values.clear();
+    }
+
     /// How many there are.
     pub(crate) fn len(&self) -> usize
         ensures count { result ≡ length self.now }

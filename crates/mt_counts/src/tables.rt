@@ -46,6 +46,18 @@ impl Tables {
         }
     }
 
+    /// Takes all counts away, with their names and words, and keeps the memory for others.
+    pub(crate) fn clear(&mut self)
+        ensures { self.new ≡ record { names = []; words = []; rows = []; both = []; columns = []; alone = [] } }
+    {
+        self.names.clear();
+        self.words.clear();
+        self.rows.clear();
+        self.both.clear();
+        self.columns.clear();
+        self.alone.clear();
+    }
+
     /// Makes a place for all that the others have.
     pub(crate) fn reserve(&mut self, alloc: Global, others: &Tables) -> Result<Moves, NoMemory>
         requires { AreInside others.now }

@@ -48,6 +48,16 @@ impl Tally {
         }
     }
 
+    /// Takes all pairs away, and keeps the memory for others.
+    pub(crate) fn clear(&mut self)
+        ensures { self.new ≡ [] }
+    {
+        self.counts.clear();
+        self.belows.clear();
+        self.ends.clear();
+        self.sum = 0;
+    }
+
     /// How many pairs have a place.
     pub(crate) fn len(&self) -> usize
         ensures count { result ≡ length self.now }
