@@ -100,6 +100,13 @@ impl Triples {
         self.counts.collocates(alloc, name, word)
     }
 
+    /// The counts, so that others may take their memory. It takes no memory.
+    pub fn into_counts(self) -> Counts
+        ensures { result ≡ self }
+    {
+        self.counts
+    }
+
     /// The counts, whatever they are of. It takes no memory.
     pub fn counts(&self) -> &Counts
         ensures { result.now ≡ self.now }
