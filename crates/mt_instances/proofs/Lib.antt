@@ -14,3 +14,4 @@ pub mod Adding
 pub mod Tallying
 pub mod Settling
 pub mod Lines
+pub mod Emptied

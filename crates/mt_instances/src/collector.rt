@@ -12,9 +12,10 @@ use crate::counter::{Counter, count_all};
 use crate::fills::Fills;
 use crate::gathering::{Gathered, add_rows};
 use crate::instances::Instances;
+use crate::room::Room;
 use crate::words::Words;
 use mt_base::NoMemory;
-use mt_counts::Counts;
+use mt_counts::{Counting, Counts};
 use mt_grammar::Relation;
 use mt_lexicon::Lexicon;
 use mt_rows::RowList;
@@ -57,6 +58,25 @@ impl<'a> Collector<'a> {
                 fills: Fills::new(alloc),
             },
             counter: Counter::new(alloc),
+        }
+    }
+
+    /// The same, in the memory of a text and of counts before. What they had goes.
+    pub fn reusing(alloc: Global, lexicon: &'a Lexicon, room: Room, counts: Counts) -> Self
+        ensures { result ≡ record { lexicon = lexicon.now; numbers = []; given = []; counted = record { both = []; first = []; second = []; alone = [] } } }
+    {
+        let mut room = room;
+        room.clear();
+        Collector {
+            alloc,
+            lexicon,
+            numbers: room.numbers,
+            gathered: room.gathered,
+            counter: Counter {
+                names: room.names,
+                words: room.words,
+                counting: Counting::reusing(alloc, counts),
+            },
         }
     }
 
@@ -120,6 +140,24 @@ impl<'a> Collector<'a> {
         self.numbers.clear();
         self.gathered.instances.clear();
         Ok(())
+    }
+
+    /// The counts of the texts that are finished, and the memory of a text.
+    pub fn into_parts(self) -> (Counts, Room)
+        ensures { result.0 ≡ self.entry.counted }
+    {
+        let Counter {
+            names,
+            words,
+            counting,
+        } = self.counter;
+        let room = Room {
+            numbers: self.numbers,
+            gathered: self.gathered,
+            names,
+            words,
+        };
+        (counting.finish(), room)
     }
 
     /// The counts of the texts that are finished.

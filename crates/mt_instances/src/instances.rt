@@ -105,6 +105,16 @@ impl Instances {
         self.entries.len()
     }
 
+    /// How many names have a number.
+    pub(crate) fn name_count(&self) -> usize {
+        self.names.len()
+    }
+
+    /// How many there is room for.
+    pub(crate) fn capacity(&self) -> usize {
+        self.entries.capacity()
+    }
+
     /// The entry at a place of the list.
     pub(crate) fn get(&self, k: usize) -> Entry
         requires { k < length self.now.given }

@@ -16,14 +16,17 @@ mod laws;
 mod names;
 mod numbers;
 mod ranks;
+mod room;
 mod words;
 
 pub use collector::Collector;
 pub use laws::{lines_go_on, none_are_given, text_is_counted};
+pub use room::Room;
 
 fn shared<T: Send + Sync>() {}
 
-/// That threads may share a collector is proved by this function.
+/// That threads may share a collector and its memory is proved by this function.
 pub fn are_shared() {
     shared::<Collector>();
+    shared::<Room>();
 }
