@@ -6,6 +6,7 @@ mod patterns;
 mod prepared;
 mod resolved;
 mod sighted;
+mod spare;
 mod tag_rows;
 mod tags;
 mod test_rows;

@@ -7,7 +7,9 @@ ghost use Rattle.mt_pattern_spec.specs.Patterns.{MarksAccepted};
 ghost use Rattle.mt_eval_spec.specs.Asked.{test_patterns, expr_patterns, filters_patterns, query_patterns};
 ghost use Rattle.mt_prepare.specs.Built.{IsWhole, Blames};
 
-use mt_base::{List, NoMemory, Value};
+use super::prepared::Prepared;
+use super::spare::Spare;
+use mt_base::{List, NoMemory, Span, Value};
 use mt_cql::{Expr, Filters, Query, Test};
 use mt_lexicon::Lexicon;
 use mt_pattern::{IdSet, IdsError, PatternShop, WholePattern};
@@ -40,6 +42,7 @@ impl From<NoMemory> for PatternError {
 #[derive(Drop)]
 pub struct Patterns<P: PatternShop> {
     built: Vec<WholePattern<P>>,
+    spare: Spare,
 }
 
 impl<P: PatternShop> Model for Patterns<P> {
@@ -61,10 +64,34 @@ impl<P: PatternShop> Patterns<P> {
     {
         let mut patterns = Patterns {
             built: Vec::new(alloc),
+            spare: Spare::new(alloc),
         };
         patterns.add_expr(alloc, query.head(), shop)?;
         patterns.add_filters(alloc, query.filters(), shop)?;
         Ok(patterns)
+    }
+
+    /// Takes a query back that was made ready, so that the next one takes its memory. Lists of large texts are let go.
+    pub fn take_back(&mut self, prepared: Prepared)
+        ensures { self.new ≡ self.old }
+    {
+        self.spare.take_back(prepared);
+    }
+
+    /// A list without spans, with room for so many.
+    pub(crate) fn spans(&mut self, alloc: Global, count: usize) -> Result<Vec<Span>, NoMemory>
+        ensures none { IfOk result (λ spans. spans.items ≡ []) }
+        ensures texts { self.new ≡ self.old }
+    {
+        self.spare.spans(alloc, count)
+    }
+
+    /// A list for the spans of so many tags.
+    pub(crate) fn tags(&mut self, alloc: Global, count: usize) -> Result<List<List<Span>>, NoMemory>
+        ensures none { IfOk result (λ tags. tags ≡ []) }
+        ensures texts { self.new ≡ self.old }
+    {
+        self.spare.tags(alloc, count)
     }
 
     /// The pattern with this number, counted from 0.

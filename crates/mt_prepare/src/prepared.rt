@@ -209,7 +209,7 @@ fn ready<P: PatternShop, L: Ledger>(
 {
     let mut ready = PreparedExpr {
         tests: List::with_capacity(alloc, test_count(expr))?,
-        tags: List::with_capacity(alloc, tag_count(expr))?,
+        tags: patterns.tags(alloc, tag_count(expr))?,
     };
     add_expr(
         alloc, segment, expr, patterns, asked, shop, steps, &mut ready,
@@ -246,7 +246,7 @@ fn add_expr<P: PatternShop, L: Ledger>(
                 alloc, segment, *kind, test, patterns, asked, shop, steps, ready,
             )
         }
-        Expr::End { kind } => add_end(alloc, segment, *kind, steps, ready),
+        Expr::End { kind } => add_end(alloc, segment, *kind, patterns, steps, ready),
         Expr::Whole { kind, test } => {
             add_tag(
                 alloc, segment, *kind, test, patterns, asked, shop, steps, ready,
@@ -317,17 +317,19 @@ fn add_tag<P: PatternShop, L: Ledger>(
 }
 
 /// Adds the spans of a closing tag.
-fn add_end<L: Ledger>(
+fn add_end<P: PatternShop, L: Ledger>(
     alloc: Global,
     segment: &Segment,
     kind: u16,
+    patterns: &mut Patterns<P>,
     steps: &mut Steps<L>,
     ready: &mut PreparedExpr,
 ) -> Result<(), NoMemory>
     requires { HasKind segment.now kind }
     ensures ready { OnOk result ((place : TagPlace) → AddsReady segment.now [] (record { place = place; kind = kind; test = q.Any } ∷ []) ready.old ready.new) }
+    ensures texts { patterns.new ≡ patterns.old }
     ensures rises { steps.old ≤ steps.new }
 {
-    let spans = spans_of_kind(alloc, segment, kind, steps)?;
+    let spans = spans_of_kind(alloc, segment, kind, patterns, steps)?;
     ready.tags.push(spans)
 }

@@ -41,7 +41,7 @@ pub(crate) fn spans_of_tag<P: PatternShop, L: Ledger>(
     ensures rises { steps.old ≤ steps.new }
 {
     match test {
-        Test::Any => spans_of_kind(alloc, segment, kind, steps),
+        Test::Any => spans_of_kind(alloc, segment, kind, patterns, steps),
         _ => spans_judged(alloc, segment, kind, test, patterns, asked, shop, steps),
     }
 }
@@ -66,36 +66,41 @@ fn spans_judged<P: PatternShop, L: Ledger>(
     ensures rises { steps.old ≤ steps.new }
 {
     let judge = judge_of(alloc, segment, kind, test, patterns, asked, shop)?;
-    spans_of(alloc, segment, kind, &judge, steps)
+    let spans = patterns.spans(alloc, 0)?;
+    spans_of(spans, segment, kind, &judge, steps)
 }
 
 /// The spans of all instances of a kind in a segment.
-pub(crate) fn spans_of_kind<L: Ledger>(
+pub(crate) fn spans_of_kind<P: PatternShop, L: Ledger>(
     alloc: Global,
     segment: &Segment,
     kind: u16,
+    patterns: &mut Patterns<P>,
     steps: &mut Steps<L>,
 ) -> Result<List<Span>, NoMemory>
     requires { HasKind segment.now kind }
     ensures spans { IfOk result (λ spans. AreSpansOf segment.now (record { kind = kind; test = q.Any }) spans) }
+    ensures texts { patterns.new ≡ patterns.old }
     ensures rises { steps.old ≤ steps.new }
 {
-    spans_of(alloc, segment, kind, &Judge::Any, steps)
+    let spans = patterns.spans(alloc, segment.structs(kind).len())?;
+    spans_of(spans, segment, kind, &Judge::Any, steps)
 }
 
-/// The spans of the instances of a kind in a segment that are found.
+/// The spans of the instances of a kind in a segment that are found, in a list that has none.
 fn spans_of<L: Ledger>(
-    alloc: Global,
+    spans: Vec<Span>,
     segment: &Segment,
     kind: u16,
     judge: &Judge<'_>,
     steps: &mut Steps<L>,
 ) -> Result<List<Span>, NoMemory>
-    requires { HasKind segment.now kind }
+    requires none { spans.items ≡ [] }
+    requires known { HasKind segment.now kind }
     ensures spans { IfOk result (λ spans. ListsAll span_cmp (IsFoundBelow segment.now kind judge.now (length segment.now.texts)) spans) }
     ensures rises { steps.old ≤ steps.new }
 {
-    let mut spans = found(alloc, segment, kind, judge, steps)?;
+    let mut spans = found(spans, segment, kind, judge, steps)?;
     spans.sort_unstable();
     keep_distinct(&mut spans);
     Ok(List::from_vec(spans))
@@ -108,19 +113,19 @@ fn keep_distinct(spans: &mut Vec<Span>)
     spans.dedup();
 }
 
-/// The span of each instance that is found.
+/// The span of each instance that is found, in a list that has none.
 fn found<L: Ledger>(
-    alloc: Global,
+    mut spans: Vec<Span>,
     segment: &Segment,
     kind: u16,
     judge: &Judge<'_>,
     steps: &mut Steps<L>,
 ) -> Result<Vec<Span>, NoMemory>
-    requires { HasKind segment.now kind }
+    requires none { spans.items ≡ [] }
+    requires known { HasKind segment.now kind }
     ensures found { IfOk result (λ spans. AddsFound (IsFoundBelow segment.now kind judge.now (length segment.now.texts)) [] spans.items) }
     ensures rises { steps.old ≤ steps.new }
 {
-    let mut spans = Vec::with_capacity(alloc, sure_count(segment, kind, judge))?;
     for text in 0..segment.texts() {
         add_found(
             segment.structs_in(kind, text),
@@ -131,16 +136,6 @@ fn found<L: Ledger>(
         )?;
     }
     Ok(spans)
-}
-
-/// How many instances are found for sure, so that there is room for just these at once.
-fn sure_count(segment: &Segment, kind: u16, judge: &Judge<'_>) -> usize
-    requires { HasKind segment.now kind }
-{
-    match judge {
-        Judge::Any => segment.structs(kind).len(),
-        _ => 0,
-    }
 }
 
 /// Adds the spans of the instances in a text that are found.
