@@ -15,7 +15,8 @@ use Rattle.mt_match_spec.specs.Values.{Images}
 use Rattle.mt_match_spec.specs.Kept.{Over, Spans, operand_rows_limit}
 use Rattle.mt_match_laws.specs.Laws.{HaveRows}
 use Rattle.mt_rows.specs.Laws.{Member, to_member, from_member}
-use Rattle.mt_answer.proofs.SpanCounts.{span_list, in_spans}
+use Rattle.mt_rows.proofs.SpansOf.{span_list}
+use Rattle.mt_eval.proofs.Distinct.{in_spans}
 
 -- ## An ascending list is no longer than any list that has its items
 

@@ -4,7 +4,6 @@ pub mod Same
 pub mod Checks
 pub mod Declines
 pub mod SpanCounts
-pub mod Distinct
 pub mod Texts
 pub mod Answers
 pub mod Fitting

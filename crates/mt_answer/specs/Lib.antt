@@ -5,5 +5,4 @@ pub mod Errors
 pub mod Rows
 pub mod Given
 pub mod Reports
-pub mod QuerySpans
 pub mod Told

@@ -13,7 +13,6 @@ mod declined;
 mod frequencies;
 mod grammars;
 mod names;
-mod query_spans;
 mod querying;
 mod reading;
 mod refusal;

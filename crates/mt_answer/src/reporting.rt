@@ -6,11 +6,11 @@ ghost use Rattle.mt_answer.specs.Reports.{HasReport};
 ghost use Rattle.mt_answer.specs.Rows.{HasImages};
 
 use super::declined::Declined;
-use super::query_spans::QuerySpans;
 use super::refusal::Refusal;
 use super::rows::query_rows;
 use mt_base::NoMemory;
 use mt_corpus::Corpus;
+use mt_eval::QuerySpans;
 use mt_match_laws::have_rows;
 use mt_pattern::PatternShop;
 use std::alloc::Global;

@@ -3,6 +3,7 @@ pub mod Values
 pub mod Marks
 pub mod Rooms
 pub mod Filtered
+pub mod Distinct
 pub mod Queries
 pub mod Behind
 pub mod Exprs

@@ -5,5 +5,6 @@ pub mod Sequences
 pub mod Walks
 pub mod Rarest
 pub mod Spans
+pub mod QuerySpans
 pub mod Every
 pub mod Gapped

@@ -18,6 +18,7 @@ mod gap;
 mod gapped;
 mod kept;
 mod looks;
+mod query_spans;
 mod rarest;
 mod run;
 mod scan;
@@ -32,6 +33,7 @@ use mt_cql::Query;
 pub use mt_prepare::{PatternError, Patterns, Prepared, check, prepare};
 pub use mt_rows::{EvalError, RowList};
 use mt_segment::Segment;
+pub use query_spans::QuerySpans;
 use std::alloc::Global;
 use std::sync::ledger::Ledger;
 

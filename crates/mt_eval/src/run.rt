@@ -5,6 +5,7 @@ ghost use Rattle.std.specs.List.{Contains};
 ghost use Rattle.std.specs.List.Sorted.{IsStrictlySortedBy};
 ghost use Rattle.mt_text_spec.specs.Orders.{row_cmp, span_cmp};
 ghost use Rattle.mt_cql.specs.Shape.{shape, kind_shape, filters_shape};
+ghost use Rattle.mt_rows.specs.Rows.{IsSpanIn};
 ghost use Rattle.mt_match_spec.specs.Rows.{ListsAll};
 ghost use Rattle.mt_match_spec.specs.Kept.{Passes};
 ghost use Rattle.mt_prepare.specs.Prepared.{IsPrepared};
@@ -16,6 +17,7 @@ ghost use Rattle.mt_eval.specs.Runs.{AreTexts, StandAt};
 ghost use Rattle.mt_eval.specs.Rooms.{LowersOne};
 
 use super::finding::{Asked, rows_of};
+use super::query_spans::QuerySpans;
 use mt_base::{List, NoMemory, Span, Steps};
 use mt_cql::{Expr, FilterKind, Filters};
 use mt_rows::{EvalError, RowList};
@@ -70,6 +72,23 @@ fn filter(
     }
 }
 
+/// Keeps the rows that a filter lets pass, by the rows of its operand. Where there are no rows, it looks at none of the operand's.
+fn pass_by(
+    alloc: Global,
+    rows: &mut RowList,
+    kind: FilterKind,
+    own: RowList,
+    marks: &mut Vec<bool>,
+) -> Result<(), NoMemory>
+    ensures { OnOk result (ListsAll row_cmp (λ row. Contains rows.old row × Passes (kind_shape kind) (IsSpanIn own) row.span) rows.new) }
+{
+    if rows.is_empty() {
+        return Ok(());
+    }
+    let operand = QuerySpans::of(alloc, own)?;
+    filter(rows, kind, operand.as_slice(), marks)
+}
+
 /// Keeps the rows that all filters let pass. Their operands have the numbers from `first` on. Returns the number behind them.
 pub(crate) fn let_pass<L: Ledger>(
     alloc: Global,
@@ -110,8 +129,7 @@ pub(crate) fn let_pass<L: Ledger>(
                 marks,
                 steps,
             )?;
-            let operand = own.spans(alloc)?;
-            filter(rows, filter_of.kind, operand.as_slice(), marks)?;
+            pass_by(alloc, rows, filter_of.kind, own, marks)?;
             let_pass(alloc, asked, others, next, rows, rooms, marks, steps)
         }
     }

@@ -1,7 +1,8 @@
 -- So many different spans are counted, and the others stand behind.
 use Rattle.std.proofs.Common.{◌≡◌, ◌≤◌, ◌+◌, length, drop}
 use Rattle.std.specs.List.{dedup}
-use Rattle.mt_answer.proofs.SpanCounts.{span_list, same, behind}
+use Rattle.mt_rows.proofs.SpansOf.{span_list}
+use Rattle.mt_answer.proofs.SpanCounts.{same, behind}
 use Rattle.mt_answer.proofs.spans.span_count.Given as goal
 
 abbrev pub invariant-loop-i : goal.invariant-loop-i

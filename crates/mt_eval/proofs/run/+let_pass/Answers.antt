@@ -90,8 +90,8 @@ let_pass-requires-in-More g t c =
 pub returns-in-End-clause-rows : goal.returns-in-End-clause-rows
 returns-in-End-clause-rows g t c = rw c.in-End.is (no_filter c.args.asked.now.segment.now c.args.asked.now.texts.now c.args.rows.now c.len.ensures.ascending)
 
-pub returns-in_ok-filter-in-More-clause-rows : goal.returns-in_ok-filter-in-More-clause-rows
-returns-in_ok-filter-in-More-clause-rows g t c =
+pub returns-in_ok-pass_by-in-More-clause-rows : goal.returns-in_ok-pass_by-in-More-clause-rows
+returns-in_ok-pass_by-in-More-clause-rows g t c =
     let T = c.args.asked.now.segment.now in
     let X = c.args.asked.now.texts.now in
     let H = shape c.in-More.filter_of.value.head in
@@ -102,12 +102,12 @@ returns-in_ok-filter-in-More-clause-rows g t c =
     let found : RowsIn T X H c.in_ok-own-in-More.own = subst (λ (e : Expr). RowsIn T X e c.in_ok-own-in-More.own) (stand_first all H (I ++ O) c.args.first stand) c.in_ok-own-in-More.ensures.rows in
     rw c.in-More.is
     (on_ok c.let_pass-in-More.result _ _
-    (all_pass T X (kind_shape c.in-More.filter_of.value.kind) H (filters_shape c.in-More.filter_of.value.filters) (filters_shape c.in-More.others.value) c.in_ok-own-in-More.own c.let_pass.new.rows c.in_ok-operand-in-More.operand c.args.rows.now c.filter.new.rows c.let_pass-in-More.new.rows
-    found (rw c.deref-in-More.ensures at c.in_ok-next-in-More.ensures.rows) c.in_ok-operand-in-More.ensures (rw (c.deref-in-More-2.ensures, c.as_slice.ensures) at c.in_ok-filter-in-More.ensures))
+    (all_pass T X (kind_shape c.in-More.filter_of.value.kind) H (filters_shape c.in-More.filter_of.value.filters) (filters_shape c.in-More.others.value) c.in_ok-own-in-More.own c.let_pass.new.rows c.args.rows.now c.pass_by.new.rows c.let_pass-in-More.new.rows
+    found (rw c.deref-in-More.ensures at c.in_ok-next-in-More.ensures.rows) (rw c.deref-in-More-2.ensures at c.in_ok-pass_by-in-More.ensures))
     (rw c.deref-in-More-3.ensures at c.let_pass-in-More.ensures.rows))
 
-pub returns-in_ok-filter-in-More-clause-rooms : goal.returns-in_ok-filter-in-More-clause-rooms
-returns-in_ok-filter-in-More-clause-rooms g t c =
+pub returns-in_ok-pass_by-in-More-clause-rooms : goal.returns-in_ok-pass_by-in-More-clause-rooms
+returns-in_ok-pass_by-in-More-clause-rooms g t c =
     let T = c.args.asked.now.segment.now in
     let X = c.args.asked.now.texts.now in
     let H = shape c.in-More.filter_of.value.head in
@@ -125,8 +125,8 @@ returns-in_ok-filter-in-More-clause-rooms g t c =
     (subst (λ (n : ℕ). EachLeaves T X O n c.let_pass.new.rooms c.let_pass-in-More.new.rooms) (rw c.deref-in-More.ensures at c.in_ok-next-in-More.ensures.next) last)))
     (rw c.deref-in-More-3.ensures at c.let_pass-in-More.ensures.rooms))
 
-pub returns-in_ok-filter-in-More-clause-too_many : goal.returns-in_ok-filter-in-More-clause-too_many
-returns-in_ok-filter-in-More-clause-too_many g t c =
+pub returns-in_ok-pass_by-in-More-clause-too_many : goal.returns-in_ok-pass_by-in-More-clause-too_many
+returns-in_ok-pass_by-in-More-clause-too_many g t c =
     let T = c.args.asked.now.segment.now in
     let X = c.args.asked.now.texts.now in
     let H = shape c.in-More.filter_of.value.head in

@@ -1,18 +1,21 @@
 -- Where no two rows have the same span, their spans are ascending as they stand.
-use Rattle.std.proofs.Common.{◌≡◌, ℕ, zero, suc, ◌+◌, ◌<◌, true, false, List, [], ◌∷◌, length, get_or, slice_get, refl, sym, ap, subst, ◌∙◌, inl, inr, arith, cond}
+use Rattle.std.proofs.Common.{◌≡◌, ℕ, zero, suc, ◌+◌, ◌<◌, Bool, true, false, List, [], ◌∷◌, length, get_or, slice_get, refl, sym, ap, subst, ◌∙◌, inl, inr, arith, cond}
 use Rattle.std.specs.Prelude.{IsSomeAnd}
 use Rattle.std.proofs.lemmas.Bool.{cases_lt}
 use Rattle.std.specs.List.{dedup, dedup_from}
 use Rattle.std.specs.List.Sorted.{IsStrictlySortedBy}
 use Rattle.std.specs.declared.cmp.Ordering.{Ordering}
 use Rattle.std.specs.declared.cmp.Ordering.TheVariants.{Less, Equal, Greater}
-use Rattle.std.specs.Ordering.{is_eq, ordering_reverse}
+use Rattle.std.specs.Ordering.{is_eq, eq_by_cmp, ordering_reverse}
 use Rattle.mt_text_spec.specs.Texts.{Span, Row}
 use Rattle.mt_text_spec.specs.Orders.{span_cmp, row_cmp, span_cmp_total}
 use Rattle.mt_match_spec.specs.Rows.{ListsAll}
 use Rattle.mt_rows.specs.Rows.{IsSpanIn}
-use Rattle.mt_rows.specs.Laws.{to_member, from_member}
-use Rattle.mt_answer.proofs.SpanCounts.{span_list, same, spans_listed, row_with, in_spans}
+use Rattle.mt_rows.specs.Laws.{Member, to_member, from_member}
+use Rattle.mt_rows.proofs.SpansOf.{span_list, spans_listed}
+
+abbrev pub same : Span → Span → Bool
+same = eq_by_cmp span_cmp
 
 -- at this place stands another span than behind it
 abbrev pub DifferAt : List Span → ℕ → Type 0
@@ -89,6 +92,20 @@ all_differ rows i s end differ =
     ascending rows s (λ k low. differ k (omega (arith, n, low, end)))
 
 -- ## All spans of rows
+
+pub in_spans : (rows : List Row) (row : Row) → Member row rows → Member row.span (span_list rows)
+in_spans [] row m = m
+in_spans (r ∷ rows) row (inl e) = inl (ap (λ (x : Row). x.span) e)
+in_spans (r ∷ rows) row (inr m) = inr (in_spans rows row m)
+
+record RowWith (rows : List Row) (span : Span) : Type 0 where
+  labels : List ℕ
+  member : Member (record { span = span; labels = labels }) rows
+
+row_with : (rows : List Row) (span : Span) → Member span (span_list rows) → RowWith rows span
+row_with [] span m = absurd m
+row_with (r ∷ rows) span (inl e) = record { labels = r.labels; member = inl (λ i. record { span = e i; labels = r.labels }) }
+row_with (r ∷ rows) span (inr m) = let h = row_with rows span m in record { labels = h.labels; member = inr h.member }
 
 pub listed : (rows : List Row) → IsStrictlySortedBy span_cmp (span_list rows) → ListsAll span_cmp (IsSpanIn rows) (span_list rows)
 listed rows s = record {

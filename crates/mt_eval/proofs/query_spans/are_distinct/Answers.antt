@@ -1,6 +1,6 @@
 use Rattle.std.proofs.Common.{◌≡◌, suc, refl, sym, ◌∙◌, ◌-◌, arith}
-use Rattle.mt_answer.proofs.Distinct.{differ_on, repeated, all_differ}
-use Rattle.mt_answer.proofs.query_spans.are_distinct.Goals as goal
+use Rattle.mt_eval.proofs.Distinct.{differ_on, repeated, all_differ}
+use Rattle.mt_eval.proofs.query_spans.are_distinct.Goals as goal
 
 pub returns-then-are_same : goal.returns-then-are_same
 returns-then-are_same c =

@@ -15,7 +15,7 @@ use std::marker::Model;
 
 /// The spans of a query, ascending, each once, seen as their list.
 #[derive(Drop)]
-pub(crate) struct QuerySpans {
+pub struct QuerySpans {
     kept: KeptSpans,
 }
 
@@ -31,7 +31,7 @@ pub(crate) enum KeptSpans {
 impl Model for QuerySpans {
     ghost use Rattle.std.specs.Prelude.{List as Items};
     ghost use Rattle.mt_text_spec.specs.Texts as spec;
-    ghost use Rattle.mt_answer.specs.QuerySpans.{spans_kept};
+    ghost use Rattle.mt_eval.specs.QuerySpans.{spans_kept};
 
     ghost Value = { Items spec.Span };
 
@@ -40,7 +40,7 @@ impl Model for QuerySpans {
 
 impl QuerySpans {
     /// The spans of rows. They are copied only where two rows have the same one, so that mostly this takes no memory.
-    pub(crate) fn of(alloc: Global, rows: RowList) -> Result<Self, NoMemory>
+    pub fn of(alloc: Global, rows: RowList) -> Result<Self, NoMemory>
         ensures { IfOk result (λ spans. ListsAll span_cmp (IsSpanIn rows) spans) }
     {
         if !are_distinct(&rows) {
@@ -55,7 +55,7 @@ impl QuerySpans {
     }
 
     /// All of them.
-    pub(crate) fn as_slice(&self) -> &[Span]
+    pub fn as_slice(&self) -> &[Span]
         ensures { result.now ≡ self.now }
     {
         match &self.kept {
