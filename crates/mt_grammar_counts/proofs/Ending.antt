@@ -1,27 +1,24 @@
 -- Counts over no texts, over one text, and over a whole corpus.
-use Rattle.std.proofs.Common.{◌≡◌, ℕ, zero, suc, ◌<◌, ◌≤◌, List, [], ◌∷◌, length, get_or, slice_get, slice_index, Some, Result, Ok, Err, refl, sym, ◌∙◌, ap, subst, arith}
+use Rattle.std.proofs.Common.{◌≡◌, ℕ, zero, suc, ◌<◌, List, [], ◌∷◌, length, get_or, slice_get, slice_index, Some, Result, Ok, Err, refl, sym, ◌∙◌, ap, subst, arith, OnOk}
 use Rattle.std.specs.Result.{IsErrAnd}
 use Rattle.mt_text_spec.specs.Registries.{Registry, ValidRegistry}
 use Rattle.mt_text_spec.specs.Texts.{Text, ValidCorpus, ValidText}
 use Rattle.mt_text_spec.specs.Queries.{Grammar}
 use Rattle.mt_match_spec.specs.Values.{Images}
-use Rattle.mt_count_spec.specs.Counts.{HasRoom, OverNone}
-use Rattle.mt_segment_spec.specs.Tables.{Tables, AreTablesOf, AreTablesUnder}
+use Rattle.mt_count_spec.specs.Counts.{OverNone}
+use Rattle.mt_segment_spec.specs.Tables.{Tables, AreTablesUnder}
 use Rattle.mt_corpus_spec.specs.Groups.{Group, corpus_of}
 use Rattle.mt_corpus_spec.specs.Images.{Corpus, AreImagesBy}
 use Rattle.mt_corpus_spec.specs.Segments.{StandFor}
 use Rattle.mt_corpus_spec.specs.Decoded.{images_in}
 use Rattle.mt_decode_laws.specs.Laws.{ImagesAreDecoded}
-use Rattle.mt_eval_laws.specs.Laws.{Tell}
 use Rattle.mt_triples.specs.CountsOf.{AreCountsOf}
-use Rattle.mt_counts.specs.Counted.{Counted}
 use Rattle.mt_corpus.specs.Held.{IsMadeOf}
 use Rattle.mt_corpus.specs.Added.{MayBeKept}
 use Rattle.mt_corpus.specs.Named.{IsTextAt, SplitsAt}
 use Rattle.mt_instances.specs.Collected.{Collected}
 use Rattle.mt_grammar_counts.specs.Told.{TellAll, Tells}
 use Rattle.mt_grammar_counts.proofs.GroupLists.{groups_many}
-use Rattle.mt_grammar_counts.proofs.LineLists.{room_none}
 
 -- ---- no texts
 
@@ -99,6 +96,11 @@ tells_named images corpus name tables number valid is split by = record {
 abbrev error_or : {T E : Type 0} → E → Result T E → E
 error_or d (Ok x) = d
 error_or d (Err e) = e
+
+-- what is said of a result that is no error
+pub on_err : {T E : Type 0} (r : Result T E) (e : E) (P : Type 0) → IsErrAnd r (λ (own : E). own ≡ e) → OnOk r P
+on_err (Ok x) e P h = absurd h
+on_err (Err own) e P h = tt
 
 pub same_error : {T E : Type 0} (r : Result T E) (e other : E) → IsErrAnd r (λ (own : E). own ≡ e) → r ≡ Err other → e ≡ other
 same_error (Ok x) e other h is = absurd h

@@ -1,16 +1,15 @@
 -- Segments that are counted one after another, and the groups that they stand for.
-use Rattle.std.proofs.Common.{◌≡◌, ℕ, zero, suc, ◌+◌, ◌<◌, ◌≤◌, ◌⊎◌, inl, inr, List, [], ◌∷◌, ◌++◌, length, length-append, map, take, get_or, slice_get, slice_index, Some, refl, sym, ◌∙◌, ap, subst, arith}
+use Rattle.std.proofs.Common.{◌≡◌, ℕ, zero, suc, ◌+◌, ◌<◌, ◌≤◌, ◌⊎◌, inl, inr, List, [], ◌∷◌, ◌++◌, length, length-append, take, get_or, slice_get, slice_index, refl, sym, ◌∙◌, ap, subst, arith}
 use Rattle.std.specs.List.{All, AllZip, Contains, flat_map}
 use Rattle.std.proofs.lemmas.List.{get_or-map, get_or_append_left, get_or-append-add, take_all}
-use Rattle.std.proofs.lemmas.List.Elements.{All-contains_itself}
-use Rattle.mt_text_spec.specs.Registries.{Registry, ValidRegistry}
+use Rattle.mt_text_spec.specs.Registries.{Registry}
 use Rattle.mt_text_spec.specs.Texts.{Text, ValidText}
-use Rattle.mt_text_spec.specs.Queries.{Query, RelationKind, Relation, Grammar}
+use Rattle.mt_text_spec.specs.Queries.{Query, RelationKind, Grammar}
 use Rattle.mt_query_spec.specs.Valid.{ValidConds, ValidExpr, ValidFilters}
-use Rattle.mt_grammar_spec.specs.ValidGrammar.{IsGrammarQuery, ValidGrammar, ValidRelation}
+use Rattle.mt_grammar_spec.specs.ValidGrammar.{IsGrammarQuery, ValidGrammar}
 use Rattle.mt_match_spec.specs.Values.{Images}
 use Rattle.mt_match_spec.specs.Kept.{Over}
-use Rattle.mt_count_spec.specs.Counts.{HasRoom, IsQueryIn}
+use Rattle.mt_count_spec.specs.Counts.{HasRoom}
 use Rattle.mt_segment_spec.specs.Tables.{Tables, AreTablesOf, AreTablesUnder}
 use Rattle.mt_corpus_spec.specs.Groups.{Group, ValidGroups, all_texts, corpus_of, live_texts}
 use Rattle.mt_corpus_spec.specs.Segments.{StandFor, live_numbers}
@@ -18,8 +17,6 @@ use Rattle.mt_decode_laws.specs.Laws.{LiveTextsAreNumbered}
 use Rattle.mt_corpus.specs.Held.{AreLive}
 use Rattle.mt_corpus_laws.specs.Joined.{GroupsAreTold}
 use Rattle.mt_eval.specs.Runs.{AreTexts}
-use Rattle.mt_eval_spec.specs.Fits.{Fits}
-use Rattle.mt_eval_spec.specs.Told.{IsFor}
 use Rattle.mt_grammar_counts.specs.Told.{AllFit, AreFor, HasNoRoom, TellAll}
 use Rattle.mt_grammar_counts.proofs.Parts.{as_long, both_at, contains_cases, contains_left, contains_right, parts_more, zipped_at}
 

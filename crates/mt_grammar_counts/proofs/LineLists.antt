@@ -1,19 +1,19 @@
 -- The lines of a grammar, as far as loops over its relations and their queries have gone.
 use Rattle.std.proofs.Common.{◌≡◌, ℕ, ◌+◌, ◌<◌, ◌≤◌, ◌⊎◌, inl, inr, List, [], ◌∷◌, ◌++◌, length, map, take, get_or, refl, sym, ◌∙◌, ap, subst, append_assoc}
-use Rattle.std.specs.List.{Contains, flat_map}
+use Rattle.std.specs.List.{Contains}
 use Rattle.std.proofs.lemmas.List.{map-append, take_all}
 use Rattle.mt_text_spec.specs.Registries.{Registry}
 use Rattle.mt_text_spec.specs.Texts.{Text}
 use Rattle.mt_text_spec.specs.Queries.{Query, Relation, Grammar}
 use Rattle.mt_match_spec.specs.Values.{Images}
 use Rattle.mt_match_spec.specs.Kept.{Over}
-use Rattle.mt_count_spec.specs.Counts.{HasRoom, IsQueryIn}
+use Rattle.mt_count_spec.specs.Counts.{HasRoom}
 use Rattle.mt_instances.specs.Collected.{Collected}
 use Rattle.mt_instances.specs.Laws.{AreLinesOf, Line}
 use Rattle.mt_grammar_counts.specs.Collecting.{Knows, OnlyGives, all_lines, line_of, lines_of}
 use Rattle.mt_grammar_counts.specs.Told.{HasNoRoom, SomeIsOver}
 use Rattle.mt_segment_spec.specs.Tables.{Tables}
-use Rattle.mt_grammar_counts.proofs.Parts.{contains_at, contains_mapped, contains_more, contains_none, contains_one, in_part, mapped_has, one_more, only_one, part_in, parts_more}
+use Rattle.mt_grammar_counts.proofs.Parts.{contains_at, contains_mapped, contains_more, contains_none, contains_one, in_part, mapped_has, one_more, only_one, part_in}
 
 -- ---- what stays
 

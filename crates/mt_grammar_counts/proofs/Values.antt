@@ -1,6 +1,6 @@
 -- The values of a text, and the labels of its rows, as a collector is told them.
-use Rattle.std.proofs.Common.{◌≡◌, ℕ, ◌+◌, ◌<◌, List, [], ◌∷◌, length, map, get_or, slice_get, slice_index, sum, Option, None, Some, option_map, refl, sym, ◌∙◌, ap, ap₂, subst, arith}
-use Rattle.std.proofs.lemmas.List.{length-map, get_or-map}
+use Rattle.std.proofs.Common.{◌≡◌, ℕ, ◌+◌, ◌<◌, List, [], ◌∷◌, length, map, get_or, slice_get, sum, Option, None, Some, option_map, refl, sym, ◌∙◌, ap, ap₂, subst, arith}
+use Rattle.std.proofs.lemmas.List.{get_or-map}
 use Rattle.std.proofs.lemmas.List.Concat.{length-flat_map}
 use Rattle.std.proofs.lemmas.List.Sums.{sum-map}
 use Rattle.std.proofs.lemmas.Simd.{map-map}
@@ -17,7 +17,7 @@ use Rattle.mt_eval_spec.specs.RowsIn.{KeptIn}
 use Rattle.mt_eval_laws.specs.Laws.{LabelsAreInside}
 use Rattle.mt_instances.specs.Collected.{Collected}
 use Rattle.mt_instances.specs.Gains.{LabelsLie}
-use Rattle.mt_instances.specs.Gathered.{IsText, value_in}
+use Rattle.mt_instances.specs.Gathered.{IsText}
 use Rattle.mt_grammar_counts.specs.Collecting.{Knows}
 use Rattle.mt_grammar_counts.specs.Told.{Tells}
 use Rattle.mt_grammar_counts.proofs.Alone.{alone_listed}

@@ -2,7 +2,7 @@
 use Rattle.std.specs.Prelude.{ℕ, ◌+◌, List, map}
 use Rattle.std.specs.List.{flat_map}
 use Rattle.mt_text_spec.specs.Registries.{Registry}
-use Rattle.mt_text_spec.specs.Queries.{Query, Relation, Grammar}
+use Rattle.mt_text_spec.specs.Queries.{Relation, Grammar}
 use Rattle.mt_query_spec.specs.Contents.{patterns}
 use Rattle.mt_grammar_spec.specs.ValidGrammar.{ValidGrammar}
 use Rattle.mt_eval_spec.specs.Asked.{query_patterns}

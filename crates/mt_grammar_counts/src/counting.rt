@@ -18,6 +18,7 @@ ghost use Rattle.mt_grammar_counts.specs.Told.{HasNoRoom, Tells};
 use super::error::CountError;
 use super::patterns::GrammarPatterns;
 use super::segments::{Buffers, add_segment, add_segments};
+use super::text_counts::TextCounts;
 use mt_base::{List, Registry, Steps, Value};
 use mt_corpus::Corpus;
 use mt_decode_laws::images_are_decoded;
@@ -98,7 +99,7 @@ fn count_all<P: PatternShop, L: Ledger>(
     Ok(Triples::of_counts(collector.finish()))
 }
 
-/// What a grammar counts over one text of a segment, by its number there.
+/// Counts one text of a segment, by its number there.
 fn count_one<P: PatternShop, L: Ledger>(
     alloc: Global,
     registry: &Registry,
@@ -106,9 +107,10 @@ fn count_one<P: PatternShop, L: Ledger>(
     patterns: &mut GrammarPatterns<P>,
     segment: &Segment,
     number: u32,
+    counts: &mut TextCounts,
     shop: &mut P,
     blank: Blank,
-) -> Result<Triples, CountError>
+) -> Result<(), CountError>
     requires name { blank.name ≡ L.name }
     requires parts { blank.parts ≡ L.parts }
     requires some { 0 < L.parts }
@@ -116,7 +118,7 @@ fn count_one<P: PatternShop, L: Ledger>(
     requires number { number < length segment.now.texts }
     requires grammar { ValidGrammar registry.now grammar.now }
     requires patterns { patterns.old ≡ patterns_of grammar.now }
-    ensures counts { (images : Images) (text : texts.Text) → Tells images registry.now segment.now number text → IfOk result (AreCountsOf images registry.now grammar.now (text ∷ [])) }
+    ensures counts { (images : Images) (text : texts.Text) → Tells images registry.now segment.now number text → OnOk result (AreCountsOf images registry.now grammar.now (text ∷ []) counts.new) }
     ensures room { (images : Images) (text : texts.Text) → Tells images registry.now segment.now number text → OnOk result (HasRoom images registry.now grammar.now (text ∷ [])) }
     ensures too_many { (images : Images) (text : texts.Text) → Tells images registry.now segment.now number text → IsErrOf result CountError.TooManyRows → HasNoRoom images registry.now grammar.now (text ∷ []) }
     ensures patterns { patterns.new ≡ patterns.old }
@@ -124,7 +126,7 @@ fn count_one<P: PatternShop, L: Ledger>(
 {
     let mut steps = Steps::<L>::new(blank);
     let _valid = segment.texts();
-    let mut collector = Collector::new(alloc, segment.lexicon(registry.ws_attr()));
+    let mut collector = counts.collector(alloc, segment.lexicon(registry.ws_attr()));
     add_segment(
         alloc,
         registry,
@@ -133,27 +135,29 @@ fn count_one<P: PatternShop, L: Ledger>(
         segment,
         &[number],
         &mut collector,
-        &mut no_buffers(alloc),
+        &mut counts.buffers,
         shop,
         &mut steps,
     )?;
-    Ok(Triples::of_counts(collector.finish()))
+    counts.take(collector);
+    Ok(())
 }
 
-/// What a grammar counts over a text whose segment is built and may be kept, before it is.
+/// Counts a text whose segment is built and may be kept, before it is.
 pub fn count_added<P: PatternShop>(
     alloc: Global,
     corpus: &Corpus,
     grammar: &Grammar,
     patterns: &mut GrammarPatterns<P>,
     segment: &Segment,
+    counts: &mut TextCounts,
     shop: &mut P,
-) -> Result<Triples, CountError>
+) -> Result<(), CountError>
     requires segment { SomeMayBeKept corpus.now segment.now }
     requires grammar { ValidGrammar corpus.now.registry grammar.now }
     requires patterns { patterns.old ≡ patterns_of grammar.now }
     ensures counts { (images : Images) (text : texts.Text) → MayBeKept corpus.now text segment.now → AreImagesBy images (images_in corpus.now.registry segment.now)
-        → IfOk result (AreCountsOf images corpus.now.registry grammar.now (text ∷ [])) }
+        → OnOk result (AreCountsOf images corpus.now.registry grammar.now (text ∷ []) counts.new) }
     ensures room { (images : Images) (text : texts.Text) → MayBeKept corpus.now text segment.now → AreImagesBy images (images_in corpus.now.registry segment.now)
         → OnOk result (HasRoom images corpus.now.registry grammar.now (text ∷ [])) }
     ensures too_many { (images : Images) (text : texts.Text) → MayBeKept corpus.now text segment.now → AreImagesBy images (images_in corpus.now.registry segment.now)
@@ -170,25 +174,27 @@ pub fn count_added<P: PatternShop>(
         patterns,
         segment,
         0,
+        counts,
         shop,
         Blank::new(1),
     )
 }
 
-/// What a grammar counts over the one text of this name.
+/// Counts the one text of this name.
 pub fn count_named<P: PatternShop>(
     alloc: Global,
     corpus: &Corpus,
     name: &Value,
     grammar: &Grammar,
     patterns: &mut GrammarPatterns<P>,
+    counts: &mut TextCounts,
     shop: &mut P,
-) -> Result<Triples, CountError>
+) -> Result<(), CountError>
     requires name { HoldsName corpus.now.groups name.now }
     requires grammar { ValidGrammar corpus.now.registry grammar.now }
     requires patterns { patterns.old ≡ patterns_of grammar.now }
     ensures counts { (images : Images) (split : SplitsAt corpus.now.groups name.now) → AreImagesBy images corpus.now.taken
-        → IfOk result (AreCountsOf images corpus.now.registry grammar.now (split.text ∷ [])) }
+        → OnOk result (AreCountsOf images corpus.now.registry grammar.now (split.text ∷ []) counts.new) }
     ensures room { (images : Images) (split : SplitsAt corpus.now.groups name.now) → AreImagesBy images corpus.now.taken
         → OnOk result (HasRoom images corpus.now.registry grammar.now (split.text ∷ [])) }
     ensures too_many { (images : Images) (split : SplitsAt corpus.now.groups name.now) → AreImagesBy images corpus.now.taken
@@ -207,6 +213,7 @@ pub fn count_named<P: PatternShop>(
         patterns,
         segment,
         number,
+        counts,
         shop,
         Blank::new(1),
     )

@@ -12,15 +12,19 @@ mod patterns;
 mod prepared;
 mod query;
 mod segments;
+mod taking_back;
+mod text_counts;
 mod texts;
 
 pub use counting::{count_added, count_corpus, count_named};
 pub use error::CountError;
 pub use patterns::GrammarPatterns;
+pub use text_counts::TextCounts;
 
 fn shared<T: Send + Sync>() {}
 
-/// That threads may share what an error says is proved by this function.
+/// That threads may share what an error says, and what was counted, is proved by this function.
 pub fn are_shared() {
     shared::<CountError>();
+    shared::<TextCounts>();
 }

@@ -55,8 +55,8 @@ impl<P: PatternShop> RelationPatterns<P> {
         ensures texts { self.new ≡ self.old }
         ensures kept { P.refused shop.new ≡ P.refused shop.old }
     {
-        let mut prepared = List::new(alloc);
         let queries = relation.queries();
+        let mut prepared = List::with_capacity(alloc, queries.len())?;
         for i in 0..queries.len() {
             let query = queries.get(i);
             let ready = self.prepare(alloc, i, query, segment, shop, steps)?;
@@ -102,8 +102,8 @@ impl<P: PatternShop> GrammarPatterns<P> {
         ensures texts { self.new ≡ self.old }
         ensures kept { P.refused shop.new ≡ P.refused shop.old }
     {
-        let mut prepared = List::new(alloc);
         let relations = grammar.relations();
+        let mut prepared = List::with_capacity(alloc, relations.len())?;
         for i in 0..relations.len() {
             let relation = relations.get(i);
             let ready = self.prepare(alloc, i, relation, segment, shop, steps)?;

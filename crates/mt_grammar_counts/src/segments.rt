@@ -63,7 +63,7 @@ pub(crate) fn add_segment<'a, P: PatternShop, L: Ledger>(
     let _valid = segment.texts();
     collector.turn_to(segment.lexicon(registry.ws_attr()));
     let prepared = patterns.prepare_all(alloc, grammar, segment, shop, steps)?;
-    add_texts(
+    let counted = add_texts(
         alloc,
         registry,
         grammar,
@@ -74,7 +74,9 @@ pub(crate) fn add_segment<'a, P: PatternShop, L: Ledger>(
         &mut buffers.listed,
         &mut buffers.rooms,
         steps,
-    )
+    );
+    patterns.take_back(prepared);
+    counted
 }
 
 /// Counts the texts of a corpus, one segment after another.

@@ -7,8 +7,10 @@ ghost use Rattle.mt_rules.specs.Ruled.{AreOver};
 ghost use Rattle.mt_rules.specs.Keeping.{HaveImages, IsCountedAlone, IsNotTooRich, IsTooRich, KeepsAlone};
 
 use super::rules::Rules;
+use mt_answer::GrammarCounts;
 use mt_corpus::Corpus;
 use mt_count_laws::{one_count, one_unary_count};
+use mt_grammar::Grammar;
 use mt_grammar_counts::{CountError, count_added};
 use mt_pattern::PatternShop;
 use mt_segment::Segment;
@@ -37,44 +39,54 @@ impl<P: PatternShop> Rules<P> {
         ensures room { (text : texts.Text) → MayBeKept corpus.old text segment → OnOk result (IsNotTooRich corpus.old self.old.grammar text segment) }
         ensures shop { P.refused shop.new ≡ P.refused shop.old }
     {
-        let more = count_added(
+        count_added(
             alloc,
             corpus,
             &self.grammar,
             &mut self.patterns,
             &segment,
+            &mut self.text_counts,
             shop,
         )?;
-        self.keep_counted(alloc, corpus, segment, &more)
+        let kept = keep_counted(
+            alloc,
+            &self.grammar,
+            &mut self.counts,
+            corpus,
+            segment,
+            self.text_counts.triples(),
+        );
+        self.text_counts.let_go_where_large(alloc);
+        kept
     }
+}
 
-    /// Keeps the text of a segment, which has been counted.
-    fn keep_counted(
-        &mut self,
-        alloc: Global,
-        corpus: &mut Corpus,
-        segment: Segment,
-        more: &Triples,
-    ) -> Result<(), CountError>
-        requires over { AreOver corpus.old self.old }
-        requires segment { SomeMayBeKept corpus.old segment }
-        requires images { HaveImages corpus.old segment }
-        requires counts { (text : texts.Text) → MayBeKept corpus.old text segment → IsCountedAlone corpus.old self.old.grammar text segment more.now }
-        ensures ok { (text : texts.Text) → MayBeKept corpus.old text segment → OnOk result (KeepsAlone corpus.old text segment corpus.new) }
-        ensures err { OnErr result (corpus.new ≡ corpus.old) }
-        ensures over { AreOver corpus.new self.new }
-        ensures grammar { self.new.grammar ≡ self.old.grammar }
-        ensures starved { IsErrOf result CountError.TooManyRows → ⊥ }
-    {
-        one_count();
-        one_unary_count();
-        self.counts.add(alloc, more)?;
-        match corpus.keep(segment) {
-            Ok(()) => Ok(()),
-            Err(_) => {
-                self.counts.subtract(more);
-                Err(CountError::NoMemory)
-            }
+/// Keeps the text of a segment, which has been counted.
+fn keep_counted(
+    alloc: Global,
+    grammar: &Grammar,
+    counts: &mut GrammarCounts,
+    corpus: &mut Corpus,
+    segment: Segment,
+    more: &Triples,
+) -> Result<(), CountError>
+    requires over { AreOver corpus.old (record { grammar = grammar.now; counted = counts.old }) }
+    requires segment { SomeMayBeKept corpus.old segment }
+    requires images { HaveImages corpus.old segment }
+    requires counts { (text : texts.Text) → MayBeKept corpus.old text segment → IsCountedAlone corpus.old grammar.now text segment more.now }
+    ensures ok { (text : texts.Text) → MayBeKept corpus.old text segment → OnOk result (KeepsAlone corpus.old text segment corpus.new) }
+    ensures err { OnErr result (corpus.new ≡ corpus.old) }
+    ensures over { AreOver corpus.new (record { grammar = grammar.now; counted = counts.new }) }
+    ensures starved { IsErrOf result CountError.TooManyRows → ⊥ }
+{
+    one_count();
+    one_unary_count();
+    counts.add(alloc, more)?;
+    match corpus.keep(segment) {
+        Ok(()) => Ok(()),
+        Err(_) => {
+            counts.subtract(more);
+            Err(CountError::NoMemory)
         }
     }
 }

@@ -13,7 +13,7 @@ use super::rules::Rules;
 use mt_answer::{Declined, GrammarCounts, Refusal, no_grammar, patterns_are_told};
 use mt_corpus::Corpus;
 use mt_grammar::{Grammar, read_grammar};
-use mt_grammar_counts::{CountError, GrammarPatterns, count_corpus};
+use mt_grammar_counts::{CountError, GrammarPatterns, TextCounts, count_corpus};
 use mt_grammar_laws::{one_grammar, one_grammar_answer};
 use mt_pattern::PatternShop;
 use std::alloc::Global;
@@ -82,6 +82,7 @@ fn counted<P: PatternShop>(
             grammar,
             patterns,
             counts: GrammarCounts::new(triples),
+            text_counts: TextCounts::new(alloc),
         }),
         Err(CountError::TooManyRows) => Err(Declined::Refused(Refusal::TooManyRows)),
         Err(CountError::NoMemory) => Err(Declined::NoMemory),

@@ -34,18 +34,27 @@ impl<P: PatternShop> Rules<P> {
         ensures grammar { self.new.grammar ≡ self.old.grammar }
         ensures shop { P.refused shop.new ≡ P.refused shop.old }
     {
-        let less = match count_named(alloc, corpus, name, &self.grammar, &mut self.patterns, shop) {
-            Ok(less) => less,
+        match count_named(
+            alloc,
+            corpus,
+            name,
+            &self.grammar,
+            &mut self.patterns,
+            &mut self.text_counts,
+            shop,
+        ) {
+            Ok(()) => {}
             Err(CountError::NoMemory) => return Err(NoMemory),
             Err(CountError::TooManyRows) => {
                 stands_once(corpus, name);
                 unreachable!()
             }
-        };
+        }
         let Ok(tokens) = corpus.remove(name) else {
             unreachable!()
         };
-        self.counts.subtract(&less);
+        self.counts.subtract(self.text_counts.triples());
+        self.text_counts.let_go_where_large(alloc);
         Ok(tokens)
     }
 }

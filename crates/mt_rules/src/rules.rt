@@ -9,18 +9,19 @@ ghost use Rattle.mt_rules.specs.Names.{name_count};
 use mt_answer::GrammarCounts;
 use mt_base::NoMemory;
 use mt_grammar::{Grammar, RelationKind};
-use mt_grammar_counts::GrammarPatterns;
+use mt_grammar_counts::{GrammarPatterns, TextCounts};
 use mt_pattern::PatternShop;
 use std::alloc::Global;
 use std::marker::Model;
 
-/// A sketch grammar that is held over a corpus: with its patterns, which are built once, and with what it counts over the texts. Contracts see the grammar and the
+/// A sketch grammar that is held over a corpus: with its patterns, which are built once, with what it counts over the texts, and with memory in which one more text is counted. Contracts see the grammar and the
 /// counts.
 #[derive(Drop)]
 pub struct Rules<P: PatternShop> {
     pub(crate) grammar: Grammar,
     pub(crate) patterns: GrammarPatterns<P>,
     pub(crate) counts: GrammarCounts,
+    pub(crate) text_counts: TextCounts,
 }
 
 impl<P: PatternShop> Model for Rules<P> {

@@ -1,4 +1,4 @@
-use Rattle.std.proofs.Common.{◌∷◌, [], sym, subst, IfOk, OnOk, IsErrOf}
+use Rattle.std.proofs.Common.{◌∷◌, [], sym, subst, OnOk}
 use Rattle.mt_text_spec.specs.Registries.{Registry}
 use Rattle.mt_segment_spec.specs.Tables.{AreTablesUnder}
 use Rattle.mt_count_spec.specs.Counts.{HasRoom}
@@ -19,7 +19,7 @@ count_one-requires-clause-number g c = first_within c.args.corpus.now.registry c
 pub returns-clause-counts : goal.returns-clause-counts
 returns-clause-counts g c = λ images text may by.
     let e = c.registry-registry.ensures.registry in
-    subst (λ (r : Registry). IfOk c.count_one.result (AreCountsOf images r c.args.grammar.now (text ∷ []))) e
+    subst (λ (r : Registry). OnOk c.count_one.result (AreCountsOf images r c.args.grammar.now (text ∷ []) c.count_one.new.counts)) e
     (c.count_one.ensures.counts images text (subst (λ (r : Registry). Tells images r c.args.segment.now 0 text) (sym e) (tells_added c.images_are_decoded.ensures images c.args.corpus.now text c.args.segment.now c.registry-registry.ensures.valid may by)))
 
 pub returns-clause-room : goal.returns-clause-room

@@ -1,15 +1,10 @@
-use Rattle.std.proofs.Common.{rules, ◌≡◌, ◌<◌, ◌∙◌, List, [], length, nat_eq, Err, IsErrOf, sym, ap, subst, arith}
+use Rattle.std.proofs.Common.{◌∙◌, List, length, Err, sym, ap, subst}
 use Rattle.std.proofs.lemmas.Bool.{eqb-true}
 use Rattle.mt_text_spec.specs.Texts.{Text}
-use Rattle.mt_match_spec.specs.Values.{Images}
 use Rattle.mt_count_spec.specs.Counts.{HasRoom}
 use Rattle.mt_counts.specs.Counted.{Counted}
 use Rattle.mt_triples.specs.CountsOf.{AreCountsOf}
 use Rattle.mt_corpus_spec.specs.Groups.{corpus_of}
-use Rattle.mt_corpus_spec.specs.Images.{AreImagesBy}
-use Rattle.mt_instances.specs.Collected.{Collected}
-use Rattle.mt_grammar_counts.specs.Told.{HasNoRoom}
-use Rattle.mt_grammar_counts.specs.declared.error.CountError.{CountError}
 use Rattle.mt_grammar_counts.specs.declared.error.CountError.TheVariants.{TooManyRows}
 use Rattle.mt_grammar_counts.proofs.Ending.{no_texts, nothing_counted, same_error}
 use Rattle.mt_grammar_counts.proofs.LineLists.{room_none}

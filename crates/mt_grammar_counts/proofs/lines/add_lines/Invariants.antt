@@ -1,5 +1,5 @@
 -- The rows of the queries of the relations so far are told.
-use Rattle.std.proofs.Common.{List, [], take}
+use Rattle.std.proofs.Common.{[], take}
 use Rattle.std.specs.List.{flat_map}
 use Rattle.mt_text_spec.specs.Texts.{Text}
 use Rattle.mt_match_spec.specs.Values.{Images}

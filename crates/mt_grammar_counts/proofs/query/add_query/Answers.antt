@@ -1,6 +1,3 @@
-use Rattle.std.proofs.Common.{rules, ℕ, ◌∙◌, List}
-use Rattle.mt_text_spec.specs.Texts.{Text}
-use Rattle.mt_match_spec.specs.Values.{Images}
 use Rattle.mt_grammar_counts.proofs.Alone.{have_labels}
 use Rattle.mt_grammar_counts.proofs.Values.{is_text, labels_lie}
 use Rattle.mt_grammar_counts.proofs.LineLists.{gives_none}

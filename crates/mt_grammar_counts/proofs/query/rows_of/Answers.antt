@@ -1,8 +1,7 @@
-use Rattle.std.proofs.Common.{ℕ, ◌≡◌, ◌∙◌, List, [], ◌∷◌, length, replicate, Err, sym, ap, subst, arith}
+use Rattle.std.proofs.Common.{ℕ, ◌∙◌, List, length, Err, ap, subst}
 use Rattle.std.proofs.lemmas.List.{length-replicate}
 use Rattle.mt_match_spec.specs.Kept.{operand_rows_limit}
 use Rattle.mt_eval_spec.specs.RowsIn.{EachLeaves, KeptIn, SomePasses, heads}
-use Rattle.mt_prepare.specs.Prepared.{IsReady}
 use Rattle.mt_grammar_counts.proofs.Alone.{alone_texts, is_over, not_over, whole_rooms}
 use Rattle.mt_grammar_counts.proofs.query.rows_of.Goals as goal
 

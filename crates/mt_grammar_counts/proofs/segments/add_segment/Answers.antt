@@ -1,5 +1,4 @@
-use Rattle.std.proofs.Common.{[], ◌∙◌, List, sym, ap, subst}
-use Rattle.mt_text_spec.specs.Texts.{Text}
+use Rattle.std.proofs.Common.{◌∙◌, sym, ap, subst}
 use Rattle.mt_counts.specs.Counted.{Counted}
 use Rattle.mt_triples.specs.CountsOf.{AreCountsOf}
 use Rattle.mt_instances.specs.Collected.{Collected}
@@ -14,13 +13,13 @@ prepare_all-requires-clause-queries g c =
     let e = c.grammar_queries_are_in_order.ensures in
     all_for c.args.registry.now c.args.segment.now c.args.grammar.now c.requires.under (all_fit (record { head = e.head; filters = e.filters; conds = e.conds }) c.args.registry.now c.args.grammar.now c.requires.grammar)
 
-pub add_texts-requires-clause-fit : goal.add_texts-requires-clause-fit
-add_texts-requires-clause-fit g c =
+pub add_texts-counted-requires-clause-fit : goal.add_texts-counted-requires-clause-fit
+add_texts-counted-requires-clause-fit g c =
     let e = c.grammar_queries_are_in_order.ensures in
     all_fit (record { head = e.head; filters = e.filters; conds = e.conds }) c.args.registry.now c.args.grammar.now c.requires.grammar
 
-pub add_texts-requires-clause-fresh : goal.add_texts-requires-clause-fresh
-add_texts-requires-clause-fresh g c =
+pub add_texts-counted-requires-clause-fresh : goal.add_texts-counted-requires-clause-fresh
+add_texts-counted-requires-clause-fresh g c =
     let is = c.turn_to.ensures in
     record {
       lexicon = ap (λ (o : Collected). o.lexicon) is ∙ rw c.ws_attr.ensures at c.lexicon.ensures;
@@ -30,5 +29,5 @@ add_texts-requires-clause-fresh g c =
 
 pub returns-clause-counts : goal.returns-clause-counts
 returns-clause-counts g c = λ images of done tell old.
-    c.add_texts.ensures.counts images of done tell
+    c.add_texts-counted.ensures.counts images of done tell
     (subst (λ (counted : Counted). AreCountsOf images c.args.registry.now c.args.grammar.now done counted) (sym (ap (λ (o : Collected). o.counted) c.turn_to.ensures)) old)

@@ -1,15 +1,12 @@
-use Rattle.std.proofs.Common.{rules, ◌≡◌, ◌+◌, ◌<◌, ◌≤◌, ◌∙◌, ◌++◌, List, [], length, take, get_or, Err, IsErrOf, refl, sym, ap, subst, arith}
-use Rattle.std.specs.List.{All}
+use Rattle.std.proofs.Common.{rules, ◌<◌, ◌∙◌, ◌++◌, List, [], length, take, get_or, Err, IsErrOf, refl, sym, subst, arith}
 use Rattle.mt_text_spec.specs.Registries.{Registry}
 use Rattle.mt_text_spec.specs.Texts.{Text}
 use Rattle.mt_match_spec.specs.Values.{Images}
 use Rattle.mt_count_spec.specs.Counts.{HasRoom}
-use Rattle.mt_grammar_spec.specs.ValidGrammar.{ValidGrammar}
 use Rattle.mt_segment_spec.specs.Tables.{AreTablesUnder}
 use Rattle.mt_triples.specs.CountsOf.{AreCountsOf}
 use Rattle.mt_corpus_spec.specs.Groups.{corpus_of, live_texts}
 use Rattle.mt_corpus_spec.specs.Images.{AreImagesBy}
-use Rattle.mt_eval.specs.Runs.{AreTexts}
 use Rattle.mt_grammar_counts.specs.Told.{HasNoRoom, TellAll}
 use Rattle.mt_grammar_counts.specs.declared.error.CountError.{CountError}
 use Rattle.mt_grammar_counts.specs.declared.error.CountError.TheVariants.{TooManyRows}

@@ -1,4 +1,4 @@
-use Rattle.std.proofs.Common.{◌≡◌, ◌+◌, ◌<◌, ◌∙◌, ℕ, List, [], length, sym, ap, subst, arith}
+use Rattle.std.proofs.Common.{◌+◌, ◌∙◌, ℕ, length, ap, arith}
 use Rattle.std.proofs.lemmas.List.{length_push}
 use Rattle.mt_segment_spec.specs.Tables.{number_at, tables_at}
 use Rattle.mt_grammar_counts.proofs.GroupLists.{attr_within}

@@ -1,7 +1,7 @@
-use Rattle.std.proofs.Common.{rules, ◌≡◌, ◌+◌, ◌<◌, ◌∙◌, List, length, map, take, get_or, sym, ap, subst, arith}
-use Rattle.std.specs.List.{All, flat_map}
+use Rattle.std.proofs.Common.{rules, ◌+◌, ◌<◌, ◌∙◌, List, length, get_or, ap, arith}
+use Rattle.std.specs.List.{flat_map}
 use Rattle.mt_text_spec.specs.Queries.{Relation}
-use Rattle.mt_prepare.specs.Built.{Blames, IsWhole}
+use Rattle.mt_prepare.specs.Built.{Blames}
 use Rattle.mt_grammar_counts.specs.Asked.{relation_patterns}
 use Rattle.mt_grammar_counts.proofs.Parts.{mapped_more, part_fits}
 use Rattle.mt_grammar_counts.proofs.Blaming.{blamed_at, count_more, its_patterns, whole_more}

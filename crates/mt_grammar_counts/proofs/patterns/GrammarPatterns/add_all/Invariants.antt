@@ -1,5 +1,5 @@
 -- The patterns of the relations so far.
-use Rattle.std.proofs.Common.{◌≡◌, ◌+◌, length, map, take}
+use Rattle.std.proofs.Common.{◌≡◌, length, map, take}
 use Rattle.std.specs.List.{All, flat_map}
 use Rattle.mt_prepare.specs.Built.{IsWhole}
 use Rattle.mt_grammar_counts.specs.Asked.{relation_patterns}

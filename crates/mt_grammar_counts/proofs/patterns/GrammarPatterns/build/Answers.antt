@@ -1,8 +1,7 @@
-use Rattle.std.proofs.Common.{rules, List, subst}
-use Rattle.std.specs.List.{All, flat_map}
-use Rattle.mt_prepare.specs.Built.{Blames, IsWhole}
+use Rattle.std.proofs.Common.{rules}
+use Rattle.mt_prepare.specs.Built.{Blames}
 use Rattle.mt_grammar_counts.specs.Asked.{grammar_patterns}
-use Rattle.mt_grammar_counts.proofs.Blaming.{blames_all, few_patterns, its_patterns, same_patterns, whole_all}
+use Rattle.mt_grammar_counts.proofs.Blaming.{blames_all, few_patterns, whole_all}
 use Rattle.mt_grammar_counts.proofs.patterns.GrammarPatterns.build.Goals as goal
 
 pub add_all-requires-clause-few : goal.add_all-requires-clause-few

@@ -1,10 +1,9 @@
-use Rattle.std.proofs.Common.{rules, ◌≡◌, ◌+◌, ◌<◌, ◌∙◌, List, length, map, take, get_or, sym, ap, subst, arith}
-use Rattle.std.specs.List.{All, flat_map}
-use Rattle.std.proofs.lemmas.List.Elements.{All-append}
+use Rattle.std.proofs.Common.{rules, ◌+◌, ◌<◌, ◌∙◌, List, length, get_or, ap, arith}
+use Rattle.std.specs.List.{flat_map}
 use Rattle.mt_text_spec.specs.Queries.{Query}
 use Rattle.mt_eval_spec.specs.Asked.{query_patterns}
-use Rattle.mt_prepare.specs.Built.{Blames, IsWhole}
-use Rattle.mt_grammar_counts.proofs.Parts.{mapped_more, part_fits, parts_more}
+use Rattle.mt_prepare.specs.Built.{Blames}
+use Rattle.mt_grammar_counts.proofs.Parts.{mapped_more, part_fits}
 use Rattle.mt_grammar_counts.proofs.Blaming.{blamed_at, count_more, whole_more}
 use Rattle.mt_grammar_counts.proofs.patterns.RelationPatterns.add_all.Goals as goal
 
