@@ -61,9 +61,9 @@ impl Known {
         if count == 0 {
             return None;
         }
-        let first = first_place(value, count);
-        for tried in 0..MOST_TRIES {
-            let number = self.places[(first + tried) % count];
+        let mut at = first_place(value, count);
+        for _ in 0..MOST_TRIES {
+            let number = self.places[at];
             if number == 0 {
                 return None;
             }
@@ -72,6 +72,7 @@ impl Known {
                     return Some(answer.found);
                 }
             }
+            at = place_behind(at, count);
         }
         None
     }
@@ -133,7 +134,16 @@ fn first_place(value: &str, count: usize) -> usize
     for byte in value.as_bytes() {
         mixed = (mixed ^ *byte as u64).wrapping_mul(0x0100_0000_01b3);
     }
-    ((mixed ^ mixed >> 32) % count as u64) as usize
+    let mixed = (mixed ^ mixed >> 32).wrapping_mul(0x9e37_79b9_7f4a_7c15);
+    ((mixed as u128 * count as u128) >> 64) as usize
+}
+
+/// The place behind one of so many, and behind the last the first.
+fn place_behind(at: usize, count: usize) -> usize
+    requires { at < count }
+    ensures { result < count }
+{
+    if at + 1 < count { at + 1 } else { 0 }
 }
 
 /// Puts the number of an answer at the first free place for its value. Where none is free near by, its value is asked again.
@@ -144,13 +154,13 @@ fn put(places: &mut [u32], value: &str, number: u32)
     if count == 0 {
         return;
     }
-    let first = first_place(value, count);
-    for tried in 0..MOST_TRIES {
-        let at = (first + tried) % count;
+    let mut at = first_place(value, count);
+    for _ in 0..MOST_TRIES {
         if places[at] == 0 {
             places[at] = number;
             return;
         }
+        at = place_behind(at, count);
     }
 }
 
