@@ -130,7 +130,14 @@ fn others_of(set: &[u32; 9]) -> [u32; 7]
 fn are_unset(others: &[u32; 7]) -> bool
     ensures { result ≡ true → others.now ≡ no_others }
 {
-    *others == [Row::UNSET; 7]
+    let [third, fourth, fifth, sixth, seventh, eighth, ninth] = *others;
+    third == Row::UNSET
+        && fourth == Row::UNSET
+        && fifth == Row::UNSET
+        && sixth == Row::UNSET
+        && seventh == Row::UNSET
+        && eighth == Row::UNSET
+        && ninth == Row::UNSET
 }
 
 /// Puts some labels at a place behind the others. At the places before it where there are none, none is set.

@@ -135,9 +135,10 @@ impl Rows {
     }
 }
 
-/// Whether some label is set.
+/// Whether some label is set. Label 1 is looked at first, since it is set in most rows that have labels.
 fn is_labelled(row: &Row) -> bool
     ensures { result ≡ false → row.now.labels ≡ no_labels }
 {
-    *row.labels() != [Row::UNSET; 9]
+    let labels = row.labels();
+    labels[0] != Row::UNSET || *labels != [Row::UNSET; 9]
 }

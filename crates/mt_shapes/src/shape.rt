@@ -38,11 +38,11 @@ impl Shape {
         }
     }
 
-    /// Whether no label is set.
+    /// Whether no label is set. Label 1 is looked at first, since it is set in most shapes that have labels.
     pub(crate) fn is_unlabelled(&self) -> bool
         ensures { result ≡ true → self.now.labels ≡ no_labels }
     {
-        self.labels == [Row::UNSET; 9]
+        self.labels[0] == Row::UNSET && self.labels == [Row::UNSET; 9]
     }
 
     /// By the length, then by the labels.
