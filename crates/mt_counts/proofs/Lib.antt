@@ -13,3 +13,5 @@ pub mod Taking
 pub mod Seconds
 pub mod Ascending
 pub mod Contexts
+pub mod Turning
+pub mod Noted

@@ -1,18 +1,18 @@
 -- What tables count after they have grown, and after counts of others were added.
-use Rattle.std.proofs.Common.{◌≡◌, ℕ, ◌+◌, ◌<◌, ◌≤◌, Bool, Some, List, [], ◌∷◌, length, map, get_or, slice_get, sym, ap, ap₂, ◌∙◌, arith, length-append}
+use Rattle.std.proofs.Common.{◌≡◌, ℕ, ◌+◌, ◌<◌, ◌≤◌, Bool, Some, List, [], length, map, get_or, slice_get, sym, ap, ap₂, ◌∙◌, arith, length-append}
 use Rattle.std.specs.Map.{keys_of}
 use Rattle.std.proofs.lemmas.List.{get_or_append_left}
-use Rattle.std.proofs.lemmas.Option.{slice_get_within, get_or_from_slice_get, slice_get-get_or}
+use Rattle.std.proofs.lemmas.Option.{get_or_from_slice_get, slice_get-get_or}
 use Rattle.mt_counts.specs.Totals.{total}
 use Rattle.mt_counts.specs.Names.{Begins, AreRenumbered}
-use Rattle.mt_counts.specs.Tallies.{IsCounted, IsRaised, IsAt, Grows, HasKeysBelow, AreMoved, AreAdded}
-use Rattle.mt_counts.specs.Counted.{Counted, IsSum, HaveSame, of_one, of_two}
+use Rattle.mt_counts.specs.Tallies.{IsRaised, IsAt, Grows, HasKeysBelow, AreMoved, AreAdded}
+use Rattle.mt_counts.specs.Counted.{Counted, IsSum, HaveSame}
 use Rattle.mt_counts.specs.Tables.{text_at, row_at, three_of, named_word, counted, AreInside, AreGrown, AreAllMoved, AreAllAdded}
 use Rattle.mt_counts.specs.declared.tables.Tables.{Tables}
 use Rattle.mt_counts.specs.declared.tables.Moves.{Moves}
 use Rattle.mt_counts.proofs.Entries.{length-keys, get_or-keys, grows_none}
 use Rattle.mt_counts.proofs.Numbering.{begins_none}
-use Rattle.mt_counts.proofs.Totals.{part, total-map, total-same, total-grown, total-raised, raised_key, raised_at_all}
+use Rattle.mt_counts.proofs.Totals.{total-map, total-same, total-grown}
 use Rattle.mt_counts.proofs.Moves.{same_key, at_keys, grows_at, keys_raised}
 
 -- ---- texts and rows by their numbers
@@ -197,69 +197,6 @@ sum_behind old mid t new same sum = record {
   alone = λ p. sum.alone p ∙ ap (λ (n : ℕ). n + total p t.alone) (same.alone p);
 }
 
--- ---- one count more
-
 -- a key is there as before where counts rise
 pub raised_below : (low high : List ((ℕ × ℕ) × ℕ)) (place by g m : ℕ) → IsRaised low place by high → HasKeysBelow g m low → HasKeysBelow g m high
 raised_below low high place by g m r below key k at = below key k (at_keys high low key k (sym (keys_raised low high place by r)) at)
-
-one_total : {L : Type 0} (d : ℕ × ℕ → L) (p : L → Bool) (before behind : List ((ℕ × ℕ) × ℕ)) (key : ℕ × ℕ) (place : ℕ) → IsCounted before key place behind →
-    total p (map (λ e. (d e.0, e.1)) behind) ≡ total (λ k. p (d k)) before + total p ((d key, 1) ∷ [])
-one_total d p before behind key place h =
-    let is = raised_key h.grown behind place 1 h.raised key h.at in
-    let one : part (λ k. p (d k)) (raised_of h) 1 ≡ part p (d key) 1 = ap (λ (k : ℕ × ℕ). part p (d k) 1) is in
-    omega (arith, total-map d p behind, total-raised (λ k. p (d k)) h.grown behind place 1 h.raised, total-grown (λ k. p (d k)) before h.grown h.grows, one)
-  where
-    raised_of : IsCounted before key place behind → ℕ × ℕ
-    raised_of g = g.raised.key
-
-row_counted : (old new : List ((ℕ × ℕ) × ℕ)) (key : ℕ × ℕ) (place n : ℕ) → IsCounted old key place new → n < length old → row_at (keys_of new) n ≡ row_at (keys_of old) n
-row_counted old new key place n h l =
-    ap (λ (ks : List (ℕ × ℕ)). row_at ks n) (keys_raised h.grown new place 1 h.raised) ∙ row_grown old h.grown n h.grows l
-
-row_here : (old new : List ((ℕ × ℕ) × ℕ)) (key : ℕ × ℕ) (place : ℕ) → IsCounted old key place new → row_at (keys_of new) place ≡ key
-row_here old new key place h = ap (λ (ks : List (ℕ × ℕ)). row_at ks place) (keys_raised h.grown new place 1 h.raised) ∙ row_is h.grown place key h.at
-
-pub within_counted : (old new : List ((ℕ × ℕ) × ℕ)) (key : ℕ × ℕ) (place : ℕ) → IsCounted old key place new → place < length new
-within_counted old new key place h =
-    let at = raised_at_all h.grown new place 1 h.raised key place h.at in
-    slice_get_within new place (key, at.count) at.there
-
-nothing : {L : Type 0} (p : L → Bool) (n : ℕ) → n ≡ n + total p []
-nothing p n = omega arith
-
-pub one_counted : (names words : List (List ℕ)) (rows both columns alone more : List ((ℕ × ℕ) × ℕ)) (name word place : ℕ) → IsCounted alone (word, name) place more →
-    IsSum (counted (record { names = names; words = words; rows = rows; both = both; columns = columns; alone = alone })) (of_one (text_at names name) (text_at words word))
-    (counted (record { names = names; words = words; rows = rows; both = both; columns = columns; alone = more }))
-one_counted names words rows both columns alone more name word place h = record {
-  both = λ p. nothing p (total p (map (λ e. (three_of names words (keys_of rows) e.0, e.1)) both));
-  first = λ p. nothing p (total p (map (λ e. (named_word names words e.0, e.1)) rows));
-  second = λ p. nothing p (total p (map (λ e. (named_word names words e.0, e.1)) columns));
-  alone = λ p. one_total (named_word names words) p alone more (word, name) place h ∙ ap (λ (n : ℕ). n + total p ((named_word names words (word, name), 1) ∷ [])) (sym (total-map (named_word names words) p alone));
-}
-
-pub two_counted : (names words : List (List ℕ)) (rows both columns alone rows' both' columns' : List ((ℕ × ℕ) × ℕ)) (name first second row place column : ℕ) →
-    HasKeysBelow (length rows) (length words) both → IsCounted rows (first, name) row rows' → IsCounted both (row, second) place both' → IsCounted columns (second, name) column columns' →
-    IsSum (counted (record { names = names; words = words; rows = rows; both = both; columns = columns; alone = alone })) (of_two (text_at names name) (text_at words first) (text_at words second))
-    (counted (record { names = names; words = words; rows = rows'; both = both'; columns = columns'; alone = alone }))
-two_counted names words rows both columns alone rows' both' columns' name first second row place column below r b d = record {
-  both = λ p. one_total new p both both' (row, second) place b ∙ ap₂ ◌+◌ (stay p) (ap (λ (k : List ℕ × List ℕ × List ℕ). total p ((k, 1) ∷ [])) here);
-  first = λ p. one_total (named_word names words) p rows rows' (first, name) row r ∙ ap (λ (n : ℕ). n + total p ((named_word names words (first, name), 1) ∷ [])) (sym (total-map (named_word names words) p rows));
-  second = λ p. one_total (named_word names words) p columns columns' (second, name) column d ∙ ap (λ (n : ℕ). n + total p ((named_word names words (second, name), 1) ∷ [])) (sym (total-map (named_word names words) p columns));
-  alone = λ p. nothing p (total p (map (λ e. (named_word names words e.0, e.1)) alone));
-}
-  where
-    old : ℕ × ℕ → List ℕ × List ℕ × List ℕ
-    old = three_of names words (keys_of rows)
-
-    new : ℕ × ℕ → List ℕ × List ℕ × List ℕ
-    new = three_of names words (keys_of rows')
-
-    here : three_of names words (keys_of rows') (row, second) ≡ (text_at names name, text_at words first, text_at words second)
-    here = ap (λ (k : ℕ × ℕ). (text_at names k.1, text_at words k.0, text_at words second)) (row_here rows rows' (first, name) row r)
-
-    stay : (p : List ℕ × List ℕ × List ℕ → Bool) → total (λ k. p (three_of names words (keys_of rows') k)) both ≡ total p (map (λ e. (three_of names words (keys_of rows) e.0, e.1)) both)
-    stay p =
-        total-same (λ k. p (three_of names words (keys_of rows') k)) (λ k. p (three_of names words (keys_of rows) k)) both
-        (λ key n k e. let low = below key k (stands both key n k e) in ap (λ (q : ℕ × ℕ). p (text_at names q.1, text_at words q.0, text_at words key.1)) (row_counted rows rows' (first, name) row key.0 r low.0)) ∙
-        sym (total-map (three_of names words (keys_of rows)) p both)

@@ -1,5 +1,5 @@
 -- What is counted: how often a name stands with words, by the texts of names and words.
-use Rattle.std.specs.Prelude.{ℕ, ◌≡◌, ◌+◌, ◌≤◌, Bool, ◌&&◌, List, [], ◌∷◌}
+use Rattle.std.specs.Prelude.{ℕ, ◌≡◌, ◌+◌, ◌≤◌, Bool, ◌&&◌, List}
 use Rattle.std.specs.Str.{bytes_eq}
 use Rattle.mt_counts.specs.Totals.{total}
 
@@ -34,14 +34,6 @@ f_second counted name y = total (is_two name y) counted.second
 -- how often the unary name has the word x
 abbrev pub f1 : Counted → (name x : List ℕ) → ℕ
 f1 counted name x = total (is_two name x) counted.alone
-
--- one instance alone: a name with two words, or a unary name with one
-abbrev pub of_two : (name x y : List ℕ) → Counted
-of_two name x y = record { both = ((name, x, y), 1) ∷ []; first = ((name, x), 1) ∷ []; second = ((name, y), 1) ∷ []; alone = [] }
-
--- one count alone, of a name under one word
-abbrev pub of_one : (name x : List ℕ) → Counted
-of_one name x = record { both = []; first = []; second = []; alone = ((name, x), 1) ∷ [] }
 
 -- each count is that of a and that of b, added up; and so is what any keys have together
 pub record IsSum (a b sum : Counted) : Type 0 where

@@ -8,3 +8,4 @@ pub mod Tables
 pub mod Building
 pub mod Listed
 pub mod Numbered
+pub mod Notes

@@ -1,11 +1,13 @@
 //! Counting what stands together, one instance after another.
 
-ghost use Rattle.std.specs.Prelude.{◌≡◌, ◌<◌, [], length, slice_get, Some, IfOk, OnOk};
-ghost use Rattle.mt_counts.specs.Counted.{HaveSame, IsSum, of_one, of_two};
+ghost use Rattle.std.specs.Prelude.{◌≡◌, [], slice_get, Some, IfOk, OnOk};
+ghost use Rattle.std.specs.List.{All};
+ghost use Rattle.mt_counts.specs.Counted.{HaveSame, IsSum};
 ghost use Rattle.mt_counts.specs.Names.{Begins};
-ghost use Rattle.mt_counts.specs.Tables.{text_at};
+ghost use Rattle.mt_counts.specs.Notes.{IsNoteIn, noted};
 
 use super::counts::Counts;
+use super::note::Note;
 use super::tables::Tables;
 use mt_base::{NoMemory, Value};
 use std::alloc::Global;
@@ -69,27 +71,15 @@ impl Counting {
         self.tables.words.add_own(word)
     }
 
-    /// Counts that a name stands with a first and a second word. All counts together are fewer than 2^64; one more is refused as by want of memory.
-    pub fn add_two(&mut self, name: u32, first: u32, second: u32) -> Result<(), NoMemory>
-        requires name { name < length self.old.names }
-        requires first { first < length self.old.words }
-        requires second { second < length self.old.words }
+    /// Counts each of some instances, whose names and words have numbers here. It goes over them once a table, so that look-ups in a large table do not wait for
+    /// others. What is in the list afterwards is unknown. All counts together are fewer than 2^64; one more is refused as by want of memory.
+    pub fn add_all(&mut self, notes: &mut [Note]) -> Result<(), NoMemory>
+        requires { All (IsNoteIn self.old.names self.old.words) notes.old }
         ensures names { self.new.names ≡ self.old.names }
         ensures words { self.new.words ≡ self.old.words }
-        ensures ok { OnOk result (IsSum self.old.counted (of_two (text_at self.old.names name) (text_at self.old.words first) (text_at self.old.words second)) self.new.counted) }
+        ensures ok { OnOk result (IsSum self.old.counted (noted self.old.names self.old.words notes.old) self.new.counted) }
     {
-        self.tables.count_two(name, first, second)
-    }
-
-    /// Counts that a unary name stands with a word.
-    pub fn add_one(&mut self, name: u32, word: u32) -> Result<(), NoMemory>
-        requires name { name < length self.old.names }
-        requires word { word < length self.old.words }
-        ensures names { self.new.names ≡ self.old.names }
-        ensures words { self.new.words ≡ self.old.words }
-        ensures ok { OnOk result (IsSum self.old.counted (of_one (text_at self.old.names name) (text_at self.old.words word)) self.new.counted) }
-    {
-        self.tables.count_one(name, word)
+        self.tables.count_all(notes)
     }
 
     /// The counts.

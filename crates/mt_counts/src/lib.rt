@@ -9,6 +9,8 @@ mod hasher;
 mod listing;
 mod lowering;
 mod names;
+mod note;
+mod noting;
 mod numbered;
 mod pairs;
 mod tables;
@@ -17,6 +19,7 @@ mod tally;
 pub use builder::Counting;
 pub use counts::Counts;
 pub use listing::Head;
+pub use note::Note;
 pub use numbered::{Entry, Numbered};
 pub use pairs::Pair;
 
@@ -27,6 +30,7 @@ pub fn are_shared() {
     shared::<Counts>();
     shared::<Counting>();
     shared::<Head>();
+    shared::<Note>();
     shared::<Numbered>();
     shared::<Pair>();
 }

@@ -1,8 +1,7 @@
 //! Tables of counts by numbers.
 
-ghost use Rattle.std.specs.Prelude.{◌≡◌, ◌+◌, ◌^◌, ◌<◌, [], length, IfOk, OnOk};
-ghost use Rattle.mt_counts.specs.Counted.{IsSum, of_one, of_two};
-ghost use Rattle.mt_counts.specs.Tables.{AreAllAdded, AreAllMoved, AreGrown, AreInside, counted, text_at};
+ghost use Rattle.std.specs.Prelude.{◌≡◌, ◌+◌, ◌^◌, ◌<◌, [], IfOk};
+ghost use Rattle.mt_counts.specs.Tables.{AreAllAdded, AreAllMoved, AreGrown, AreInside};
 ghost use Rattle.mt_counts.specs.Totals.{total_of_all};
 
 use super::names::Names;
@@ -93,34 +92,5 @@ impl Tables {
         self.both.raise_all(&others.both, &moves.both);
         self.columns.raise_all(&others.columns, &moves.columns);
         self.alone.raise_all(&others.alone, &moves.alone);
-    }
-
-    /// Counts a name with two words.
-    pub(crate) fn count_two(&mut self, name: u32, first: u32, second: u32) -> Result<(), NoMemory>
-        requires name { name < length self.old.names }
-        requires first { first < length self.old.words }
-        requires second { second < length self.old.words }
-        ensures names { self.new.names ≡ self.old.names }
-        ensures words { self.new.words ≡ self.old.words }
-        ensures inside { AreInside self.old → AreInside self.new }
-        ensures ok { OnOk result (AreInside self.old → IsSum (counted self.old) (of_two (text_at self.old.names name) (text_at self.old.words first) (text_at self.old.words second)) (counted self.new)) }
-    {
-        let row = self.rows.count(first, name)?;
-        self.both.count(row, second)?;
-        self.columns.count(second, name)?;
-        Ok(())
-    }
-
-    /// Counts a unary name with a word.
-    pub(crate) fn count_one(&mut self, name: u32, word: u32) -> Result<(), NoMemory>
-        requires name { name < length self.old.names }
-        requires word { word < length self.old.words }
-        ensures names { self.new.names ≡ self.old.names }
-        ensures words { self.new.words ≡ self.old.words }
-        ensures inside { AreInside self.old → AreInside self.new }
-        ensures ok { OnOk result (AreInside self.old → IsSum (counted self.old) (of_one (text_at self.old.names name) (text_at self.old.words word)) (counted self.new)) }
-    {
-        self.alone.count(word, name)?;
-        Ok(())
     }
 }
