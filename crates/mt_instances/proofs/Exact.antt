@@ -2,7 +2,7 @@
 use Rattle.std.proofs.Common.{◌≡◌, ℕ, true, ◌&&◌, Option, Some, None, refl, ap, nat_eq, eqb-true}
 use Rattle.std.specs.Option.{option_eq}
 use Rattle.std.proofs.lemmas.Bool.{and_parts}
-use Rattle.mt_instances.specs.declared.entry.Entry.{Entry}
+use Rattle.mt_counts.specs.declared.note.Note.{Note}
 
 exact_option : (p q : Option ℕ) → option_eq nat_eq p q ≡ true → p ≡ q
 exact_option None None e = refl
@@ -10,7 +10,7 @@ exact_option None (Some q) e = cc
 exact_option (Some p) None e = cc
 exact_option (Some p) (Some q) e = ap Some (eqb-true p q e)
 
-pub exact_entry : (x y : Entry) → (nat_eq x.name y.name && (nat_eq x.first y.first && option_eq nat_eq x.second y.second)) ≡ true → x ≡ y
+pub exact_entry : (x y : Note) → (nat_eq x.name y.name && (nat_eq x.first y.first && option_eq nat_eq x.second y.second)) ≡ true → x ≡ y
 exact_entry x y e =
     let front = and_parts (nat_eq x.name y.name) (nat_eq x.first y.first && option_eq nat_eq x.second y.second) e in
     let rest = and_parts (nat_eq x.first y.first) (option_eq nat_eq x.second y.second) front.1 in

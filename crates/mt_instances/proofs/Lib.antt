@@ -12,6 +12,7 @@ pub mod ByKind
 pub mod Heading
 pub mod Adding
 pub mod Tallying
+pub mod Numbered
 pub mod Settling
 pub mod Lines
 pub mod Emptied

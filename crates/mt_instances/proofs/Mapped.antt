@@ -6,7 +6,7 @@ use Rattle.std.proofs.lemmas.Option.{slice_get-get_or}
 use Rattle.mt_count_spec.specs.Counts.{EachOnce}
 use Rattle.mt_counts.specs.Names.{AreDistinct}
 use Rattle.mt_counts.specs.Tables.{text_at}
-use Rattle.mt_instances.specs.declared.entry.Entry.{Entry}
+use Rattle.mt_counts.specs.declared.note.Note.{Note}
 use Rattle.mt_instances.specs.Entries.{instance_at, instance_of, AreNamed}
 use Rattle.mt_instances.specs.Members.{HaveSameItems}
 
@@ -51,9 +51,9 @@ mapped_same {X} {Y} f xs ys h = record { to = λ y c. on xs ys h.to y c; from = 
 
 -- ---- instances
 
-pub named_same : (names : ℕ) (xs ys : List Entry) → HaveSameItems xs ys → AreNamed names xs → AreNamed names ys
+pub named_same : (names : ℕ) (xs ys : List Note) → HaveSameItems xs ys → AreNamed names xs → AreNamed names ys
 named_same names xs ys h named =
-    All-weaker (Contains ys) (λ (e : Entry). e.name < names) (λ e c. All-contains (λ (x : Entry). x.name < names) xs e named (h.from e c)) ys (All-contains_itself ys)
+    All-weaker (Contains ys) (λ (e : Note). e.name < names) (λ e c. All-contains (λ (x : Note). x.name < names) xs e named (h.from e c)) ys (All-contains_itself ys)
 
 record SameParts (n m : List ℕ) (a b : ℕ) (p q : Option ℕ) : Type 0 where
   name : n ≡ m
@@ -69,18 +69,18 @@ same_parts n m a b (Some p) (Some q) e = record { name = cc; first = cc; second 
 there_at : (names : List (List ℕ)) (n : ℕ) → n < length names → slice_get names n ≡ Some (text_at names n)
 there_at names n l = slice_get-get_or names n [] l
 
-same_entry : (names : List (List ℕ)) → AreDistinct names → (e f : Entry) → e.name < length names → f.name < length names → instance_of names e ≡ instance_of names f → e ≡ f
+same_entry : (names : List (List ℕ)) → AreDistinct names → (e f : Note) → e.name < length names → f.name < length names → instance_of names e ≡ instance_of names f → e ≡ f
 same_entry names distinct e f l m h =
     let parts = same_parts (text_at names e.name) (text_at names f.name) e.first f.first e.second f.second h in
     let name = distinct (text_at names f.name) e.name f.name (there_at names e.name l ∙ ap Some parts.name) (there_at names f.name m) in
     λ i. record { name = name i; first = parts.first i; second = parts.second i }
 
-pub instances_once : (names : List (List ℕ)) (entries : List Entry) → AreDistinct names → AreNamed (length names) entries → EachOnce entries → EachOnce (map (instance_of names) entries)
+pub instances_once : (names : List (List ℕ)) (entries : List Note) → AreDistinct names → AreNamed (length names) entries → EachOnce entries → EachOnce (map (instance_of names) entries)
 instances_once names [] distinct named once = tt
 instances_once names (e ∷ entries) distinct named once =
-    let rest = All-tail (λ (x : Entry). x.name < length names) e entries named in
-    let here = All-head (λ (x : Entry). x.name < length names) e entries named in (
+    let rest = All-tail (λ (x : Note). x.name < length names) e entries named in
+    let here = All-head (λ (x : Note). x.name < length names) e entries named in (
       λ h. let o = origin (instance_of names) entries (instance_of names e) h in
-          once.0 (subst (Contains entries) (same_entry names distinct o.item e (All-contains (λ (x : Entry). x.name < length names) entries o.item rest o.there) here o.is) o.there),
+          once.0 (subst (Contains entries) (same_entry names distinct o.item e (All-contains (λ (x : Note). x.name < length names) entries o.item rest o.there) here o.is) o.there),
       instances_once names entries distinct rest once.1,
     )

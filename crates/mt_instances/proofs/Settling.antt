@@ -20,9 +20,11 @@ use Rattle.mt_instances.proofs.Known.{gathered_more}
 pub lie_settled : (places : ℕ) (xs ys : List Instance) → HaveSameItems xs ys → All (LiesIn places) xs → All (LiesIn places) ys
 lie_settled places xs ys h all = All-weaker (Contains ys) (LiesIn places) (λ i c. All-contains (LiesIn places) xs i all (h.from i c)) ys (All-contains_itself ys)
 
-pub settled : (lexicon : List (List ℕ)) (numbers : List ℕ) (old : Gathered) (new : Named) → new.names ≡ old.instances.names → HaveSameItems old.instances.given new.given → AreGathered lexicon numbers old → AreGathered lexicon numbers (record { instances = new; fills = old.fills })
-settled lexicon numbers old new e same g = gathered_more lexicon numbers old new e (lie_settled (length numbers) old.instances.given new.given same) g
+-- its instances are taken away
+pub emptied : (lexicon : List (List ℕ)) (numbers : List ℕ) (old : Gathered) (new : Named) → new.names ≡ old.instances.names → new.given ≡ [] → AreGathered lexicon numbers old → AreGathered lexicon numbers (record { instances = new; fills = old.fills })
+emptied lexicon numbers old new e gone g = gathered_more lexicon numbers old new e (λ lie. All-same (LiesIn (length numbers)) new.given [] gone (All-nil (LiesIn (length numbers)))) g
 
+-- and its places
 pub ended : (lexicon : List (List ℕ)) (numbers none : List ℕ) (old : Gathered) (new : Named) → none ≡ [] → new.names ≡ old.instances.names → new.given ≡ [] → AreGathered lexicon numbers old → AreGathered lexicon none (record { instances = new; fills = old.fills })
 ended lexicon numbers none old new empty e gone g = record {
   valued = All-same (λ (number : ℕ). number < length lexicon) none [] empty (All-nil (λ (number : ℕ). number < length lexicon));

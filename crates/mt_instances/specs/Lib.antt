@@ -7,6 +7,7 @@ pub mod Given
 pub mod Entries
 pub mod Rising
 pub mod Gathered
+pub mod Numbered
 pub mod Counting
 pub mod Collected
 pub mod Laws

@@ -136,9 +136,8 @@ impl<'a> Collector<'a> {
             lexicon: self.lexicon,
             numbers: self.numbers.as_slice(),
         };
-        count_all(&words, &self.gathered.instances, &mut self.counter)?;
+        count_all(&words, &mut self.gathered.instances, &mut self.counter)?;
         self.numbers.clear();
-        self.gathered.instances.clear();
         Ok(())
     }
 

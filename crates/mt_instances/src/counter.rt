@@ -1,14 +1,13 @@
 //! Counting instances by the values at their places.
 
-ghost use Rattle.std.specs.Prelude.{◌≡◌, [], ◌∷◌, ◌<◌, length, slice_get, Some, IfOk, OnOk};
-ghost use Rattle.std.specs.List.{All};
-ghost use Rattle.mt_counts.specs.Counted.{HaveSame};
-ghost use Rattle.mt_counts.specs.Names.{Begins};
+ghost use Rattle.std.specs.Prelude.{◌≡◌, [], ◌<◌, length, map, slice_get, Some, IfOk, IfSome, OnOk};
+ghost use Rattle.std.specs.List.{All, AllZip};
 ghost use Rattle.mt_counts.specs.Tables.{text_at};
 ghost use Rattle.mt_instances.specs.Counting.{AddsEach, AreReady};
 ghost use Rattle.mt_instances.specs.Entries.{instance_of};
 ghost use Rattle.mt_instances.specs.Gains.{LiesIn};
 ghost use Rattle.mt_instances.specs.Gathered.{value_in};
+ghost use Rattle.mt_instances.specs.Numbered.{GoTogether, IsEntryIn, IsNumbered, IsWord, Learns};
 
 use crate::entry::Entry;
 use crate::instances::Instances;
@@ -41,47 +40,87 @@ impl Counter {
     }
 }
 
-/// Counts each instance once more.
+/// Counts each instance once more, and takes all of them away.
 pub(crate) fn count_all(
     words: &Words,
-    instances: &Instances,
+    instances: &mut Instances,
     counter: &mut Counter,
 ) -> Result<(), NoMemory>
     requires valued { All (λ number. number < length words.now.lexicon.now) words.now.numbers.now }
-    requires lie { All (LiesIn (length words.now.numbers.now)) instances.now.given }
-    requires ready { AreReady instances.now.names words.now.lexicon.now counter.old }
-    ensures ready { AreReady instances.now.names words.now.lexicon.now counter.new }
-    ensures ok { OnOk result (AddsEach (value_in words.now.lexicon.now words.now.numbers.now) instances.now.given counter.old.counting.counted counter.new.counting.counted) }
+    requires lie { All (LiesIn (length words.now.numbers.now)) instances.old.given }
+    requires ready { AreReady instances.old.names words.now.lexicon.now counter.old }
+    ensures names { instances.new.names ≡ instances.old.names }
+    ensures given { instances.new.given ≡ [] }
+    ensures ready { AreReady instances.new.names words.now.lexicon.now counter.new }
+    ensures ok { OnOk result (AddsEach (value_in words.now.lexicon.now words.now.numbers.now) instances.old.given counter.old.counting.counted counter.new.counting.counted) }
 {
-    for k in 0..instances.len() {
-        count(words, instances, counter, instances.get(k))?;
-    }
+    let mut entries = instances.take(words.alloc);
+    count(words, instances, counter, entries.as_mut_slice())?;
+    instances.give_room(entries);
     Ok(())
 }
 
-/// Counts an instance once more.
+/// Counts the instance of each entry once more. What is in the list afterwards is unknown.
 fn count(
     words: &Words,
     instances: &Instances,
     counter: &mut Counter,
-    entry: Entry,
+    entries: &mut [Entry],
 ) -> Result<(), NoMemory>
-    requires name { entry.name < length instances.now.names }
     requires valued { All (λ number. number < length words.now.lexicon.now) words.now.numbers.now }
-    requires lies { LiesIn (length words.now.numbers.now) (instance_of instances.now.names entry) }
+    requires entries { All (IsEntryIn instances.now.names (length words.now.numbers.now)) entries.old }
     requires ready { AreReady instances.now.names words.now.lexicon.now counter.old }
     ensures ready { AreReady instances.now.names words.now.lexicon.now counter.new }
-    ensures ok { OnOk result (AddsEach (value_in words.now.lexicon.now words.now.numbers.now) (instance_of instances.now.names entry ∷ []) counter.old.counting.counted counter.new.counting.counted) }
+    ensures ok { OnOk result (AddsEach (value_in words.now.lexicon.now words.now.numbers.now) (map (instance_of instances.now.names) entries.old) counter.old.counting.counted counter.new.counting.counted) }
+{
+    number_all(words, instances, counter, entries)?;
+    counter.counting.add_all(entries)?;
+    Ok(())
+}
+
+/// Puts in the place of each entry's numbers those that its name and the values at its places have in the counts.
+fn number_all(
+    words: &Words,
+    instances: &Instances,
+    counter: &mut Counter,
+    entries: &mut [Entry],
+) -> Result<(), NoMemory>
+    requires valued { All (λ number. number < length words.now.lexicon.now) words.now.numbers.now }
+    requires entries { All (IsEntryIn instances.now.names (length words.now.numbers.now)) entries.old }
+    requires ready { AreReady instances.now.names words.now.lexicon.now counter.old }
+    ensures ready { AreReady instances.now.names words.now.lexicon.now counter.new }
+    ensures learns { Learns counter.old.counting counter.new.counting }
+    ensures numbered { OnOk result (AllZip (IsNumbered counter.new.counting instances.now.names (value_in words.now.lexicon.now words.now.numbers.now)) entries.old entries.new) }
+{
+    for k in 0..entries.len() {
+        let note = numbered(words, instances, counter, entries[k])?;
+        entries[k] = note;
+    }
+    Ok(())
+}
+
+/// The numbers that an entry's name and the values at its places have in the counts.
+fn numbered(
+    words: &Words,
+    instances: &Instances,
+    counter: &mut Counter,
+    entry: Entry,
+) -> Result<Entry, NoMemory>
+    requires valued { All (λ number. number < length words.now.lexicon.now) words.now.numbers.now }
+    requires entry { IsEntryIn instances.now.names (length words.now.numbers.now) entry }
+    requires ready { AreReady instances.now.names words.now.lexicon.now counter.old }
+    ensures ready { AreReady instances.now.names words.now.lexicon.now counter.new }
+    ensures learns { Learns counter.old.counting counter.new.counting }
+    ensures numbered { IfOk result (λ note. IsNumbered counter.new.counting instances.now.names (value_in words.now.lexicon.now words.now.numbers.now) entry note) }
 {
     let name = name_of(words, instances, counter, entry.name)?;
     let first = word_at(words, instances, counter, entry.first)?;
-    match entry.second {
-        Some(second) => {
-            let second = word_at(words, instances, counter, second)?;
-            counter.counting.add_two(name, first, second)
-        }
-        None => counter.counting.add_one(name, first),
-    }
+    let second = second_at(words, instances, counter, entry.second)?;
+    Ok(Entry {
+        name,
+        first,
+        second,
+    })
 }
 
 /// The number that a name has in the counts, by its number among the names of instances.
@@ -94,7 +133,7 @@ fn name_of(
     requires number { number < length instances.now.names }
     requires ready { AreReady instances.now.names words.now.lexicon.now counter.old }
     ensures ready { AreReady instances.now.names words.now.lexicon.now counter.new }
-    ensures counted { HaveSame counter.old.counting.counted counter.new.counting.counted }
+    ensures learns { Learns counter.old.counting counter.new.counting }
     ensures name { IfOk result (λ there. slice_get counter.new.counting.names there ≡ Some (text_at instances.now.names number)) }
 {
     if let Some(there) = counter.names.get(number) {
@@ -116,10 +155,8 @@ fn word_at(
     requires valued { All (λ number. number < length words.now.lexicon.now) words.now.numbers.now }
     requires ready { AreReady instances.now.names words.now.lexicon.now counter.old }
     ensures ready { AreReady instances.now.names words.now.lexicon.now counter.new }
-    ensures names { counter.new.counting.names ≡ counter.old.counting.names }
-    ensures words { Begins counter.old.counting.words counter.new.counting.words }
-    ensures counted { HaveSame counter.old.counting.counted counter.new.counting.counted }
-    ensures word { IfOk result (λ there. slice_get counter.new.counting.words there ≡ Some (value_in words.now.lexicon.now words.now.numbers.now place)) }
+    ensures learns { Learns counter.old.counting counter.new.counting }
+    ensures word { IfOk result (λ there. IsWord counter.new.counting (value_in words.now.lexicon.now words.now.numbers.now) place there) }
 {
     let number = words.number(place);
     if let Some(there) = counter.words.get(number) {
@@ -129,4 +166,27 @@ fn word_at(
     let there = counter.counting.own_word(value)?;
     counter.words.set(number, there)?;
     Ok(there)
+}
+
+/// The number that the value at a second place has in the counts, where there is one.
+fn second_at(
+    words: &Words,
+    instances: &Instances,
+    counter: &mut Counter,
+    place: Option<u32>,
+) -> Result<Option<u32>, NoMemory>
+    requires place { IfSome place (λ place. place < length words.now.numbers.now) }
+    requires valued { All (λ number. number < length words.now.lexicon.now) words.now.numbers.now }
+    requires ready { AreReady instances.now.names words.now.lexicon.now counter.old }
+    ensures ready { AreReady instances.now.names words.now.lexicon.now counter.new }
+    ensures learns { Learns counter.old.counting counter.new.counting }
+    ensures word { IfOk result (λ there. GoTogether (IsWord counter.new.counting (value_in words.now.lexicon.now words.now.numbers.now)) place there) }
+{
+    match place {
+        Some(place) => {
+            let there = word_at(words, instances, counter, place)?;
+            Ok(Some(there))
+        }
+        None => Ok(None),
+    }
 }

@@ -1,10 +1,10 @@
 //! The instances of a text that are known so far.
 
-ghost use Rattle.std.specs.Prelude.{◌≡◌, ◌<◌, [], ◌∷◌, ◌++◌, length, slice_get, Some, IfOk, OnOk, OnErr};
+ghost use Rattle.std.specs.Prelude.{◌≡◌, ◌<◌, [], ◌∷◌, ◌++◌, length, map, slice_get, Some, IfOk, OnOk, OnErr};
 ghost use Rattle.mt_count_spec.specs.Counts.{EachOnce};
 ghost use Rattle.mt_counts.specs.Names.{Begins};
 ghost use Rattle.mt_instances.specs.Members.{HaveSameItems};
-ghost use Rattle.mt_instances.specs.Entries.{instance_of};
+ghost use Rattle.mt_instances.specs.Entries.{AreNamed, instance_of};
 
 use crate::entry::{Entry, keep_distinct};
 use crate::names::Names;
@@ -12,6 +12,7 @@ use crate::ranks::Ranks;
 use mt_base::{NoMemory, Value};
 use std::alloc::Global;
 use std::marker::Model;
+use std::mem;
 
 /// Instances in the order in which they came, as entries under numbered names. As long as the entries of each name come in ascending order, each of them is there once.
 /// It is seen as the list of the names and that of the instances.
@@ -98,13 +99,6 @@ impl Instances {
         keep_distinct(&mut self.entries);
     }
 
-    /// How many there are.
-    pub(crate) fn len(&self) -> usize
-        ensures { result ≡ length self.now.given }
-    {
-        self.entries.len()
-    }
-
     /// How many names have a number.
     pub(crate) fn name_count(&self) -> usize {
         self.names.len()
@@ -115,13 +109,26 @@ impl Instances {
         self.entries.capacity()
     }
 
-    /// The entry at a place of the list.
-    pub(crate) fn get(&self, k: usize) -> Entry
-        requires { k < length self.now.given }
-        ensures named { result.name < length self.now.names }
-        ensures is { slice_get self.now.given k ≡ Some (instance_of self.now.names result) }
+    /// Takes all instances out, and keeps the names. It takes no memory, and costs by how many instances there were.
+    pub(crate) fn take(&mut self, alloc: Global) -> Vec<Entry>
+        ensures names { self.new.names ≡ self.old.names }
+        ensures given { self.new.given ≡ [] }
+        ensures named { AreNamed (length self.old.names) result.items }
+        ensures taken { map (instance_of self.old.names) result.items ≡ self.old.given }
     {
-        self.entries[k]
+        self.ranks.forget(self.entries.as_slice());
+        self.rising = true;
+        mem::replace(&mut self.entries, Vec::new(alloc))
+    }
+
+    /// Where there are none, gives memory for others. What the list has goes.
+    pub(crate) fn give_room(&mut self, entries: Vec<Entry>)
+        requires { self.old.given ≡ [] }
+        ensures names { self.new.names ≡ self.old.names }
+        ensures given { self.new.given ≡ [] }
+    {
+        self.entries = entries;
+        self.entries.clear();
     }
 
     /// Takes all instances away, and keeps the names, and the memory for others. It costs by how many instances there were, however many names there are.

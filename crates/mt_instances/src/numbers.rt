@@ -56,6 +56,11 @@ impl Numbers {
         Ok(())
     }
 
+    /// For how many texts there is room.
+    pub(crate) fn capacity(&self) -> usize {
+        self.numbers.capacity()
+    }
+
     /// Forgets all numbers, and keeps the memory for others.
     pub(crate) fn clear(&mut self)
         ensures { self.new ≡ [] }

@@ -8,7 +8,7 @@ use crate::instances::Instances;
 use crate::numbers::Numbers;
 use std::alloc::Global;
 
-/// The most places, names and numbers that a room has whose memory may well be kept for others.
+/// The most places, names, instances, and values with a number that a room has whose memory may well be kept for others.
 const SMALL: usize = 512;
 
 /// The memory in which a text was collected, so that another text is collected in it. Names that instances had keep their numbers, so that they are not copied again.
@@ -34,9 +34,10 @@ impl Room {
         }
     }
 
-    /// Whether it is so small that it may well be kept for others.
+    /// Whether it is so small that it may well be kept for others. The numbers of values have room for all of a lexicon, however few of them the text has.
     pub fn is_small(&self) -> bool {
         self.numbers.capacity() <= SMALL
+            && self.words.capacity() <= SMALL
             && self.gathered.instances.name_count() <= SMALL
             && self.gathered.instances.capacity() <= SMALL
     }

@@ -1,10 +1,28 @@
+use Rattle.std.proofs.Common.{ℕ, List, length, map, subst, sym}
+use Rattle.std.specs.List.{All}
+use Rattle.mt_counts.specs.declared.note.Note.{Note}
+use Rattle.mt_count_spec.specs.Instances.{Instance}
+use Rattle.mt_instances.specs.Counting.{AddsEach}
 use Rattle.mt_instances.specs.Entries.{instance_of}
 use Rattle.mt_instances.specs.Gathered.{value_in}
-use Rattle.mt_instances.proofs.Tallying.{counted_more}
+use Rattle.mt_instances.specs.Numbered.{IsEntryIn}
+use Rattle.mt_instances.proofs.Numbered.{entries_in}
 use Rattle.mt_instances.proofs.counter.count_all.Goals as goal
 
-pub loop-k-preserved : goal.loop-k-preserved
-loop-k-preserved c =
+pub count-requires-clause-entries : goal.count-requires-clause-entries
+count-requires-clause-entries c =
+    let places = length c.args.words.now.numbers.now in
+    let old = c.args.instances.now in
+    let entries = c.take-entries.result.items in
+    let all = entries_in old.names places entries old.given c.take-entries.ensures.named c.take-entries.ensures.taken c.requires.lie in
+    subst (λ (xs : List Note). All (IsEntryIn c.take-entries.new.self.names places) xs) (sym c.as_mut_slice.ensures.value) (subst (λ (names : List (List ℕ)). All (IsEntryIn names places) entries) (sym c.take-entries.ensures.names) all)
+
+pub returns-clause-ok : goal.returns-clause-ok
+returns-clause-ok c =
     let values = value_in c.args.words.now.lexicon.now c.args.words.now.numbers.now in
-    counted_more values c.args.instances.now.names c.args.words.now.lexicon.now c.args.instances.now.given c.args.counter.now c.loop-k.counter c.count.new.counter c.loop-k.k (instance_of c.args.instances.now.names c.get.result) c.loop-k.invariant c.get.ensures.is
-    c.in_ok-count.ensures.ready c.in_ok-count.ensures.ok
+    let old = c.args.instances.now in
+    let a = c.args.counter.now.counting.counted in
+    let b = c.count.new.counter.counting.counted in
+    let named = subst (λ (names : List (List ℕ)). AddsEach values (map (instance_of names) c.as_mut_slice.result.now) a b) c.take-entries.ensures.names c.in_ok-count.ensures.ok in
+    let taken = subst (λ (xs : List Note). AddsEach values (map (instance_of old.names) xs) a b) c.as_mut_slice.ensures.value named in
+    subst (λ (given : List Instance). AddsEach values given a b) c.take-entries.ensures.taken taken

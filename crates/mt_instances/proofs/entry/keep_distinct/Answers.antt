@@ -1,6 +1,6 @@
 use Rattle.std.proofs.lemmas.List.Filters.{dedup_is}
-use Rattle.mt_instances.specs.contracts.entry.EntryOrd.TheImpl.Laws.{total-law, matches_eq-law}
-use Rattle.mt_instances.specs.contracts.entry.EntryEq.TheImpl.Laws as own
+use Rattle.mt_counts.specs.contracts.note.NoteOrd.TheImpl.Laws.{total-law, matches_eq-law}
+use Rattle.mt_counts.specs.contracts.note.NoteEq.TheImpl.Laws as own
 use Rattle.mt_instances.proofs.Distinct.{kept_once, kept_same}
 use Rattle.mt_instances.proofs.Exact.{exact_entry}
 use Rattle.mt_instances.proofs.entry.keep_distinct.Goals as goal

@@ -2,9 +2,9 @@ use Rattle.std.proofs.Common.{ℕ, List, length, subst, sym, ◌∙◌}
 use Rattle.std.specs.List.{All}
 use Rattle.mt_instances.specs.Gains.{LiesIn}
 use Rattle.mt_instances.specs.Gathered.{value_in}
-use Rattle.mt_instances.specs.Counting.{AddsEach, AreReady}
+use Rattle.mt_instances.specs.Counting.{AddsEach}
 use Rattle.mt_instances.specs.Collected.{Collected, CountsEach}
-use Rattle.mt_instances.proofs.Settling.{lie_settled, settled, ended, counts_each}
+use Rattle.mt_instances.proofs.Settling.{lie_settled, emptied, ended, counts_each}
 use Rattle.mt_instances.proofs.collector.Collector.finish_text.Goals as goal
 
 pub count_all-requires-clause-lie : goal.count_all-requires-clause-lie
@@ -14,14 +14,14 @@ count_all-requires-clause-lie c =
 
 pub invariant_of-self : goal.invariant_of-self
 invariant_of-self c = record {
-  gathered_is = settled c.self.inside.lexicon.now c.self.inside.numbers.items c.self.inside.gathered c.settle.new.self c.settle.ensures.names c.settle.ensures.same c.self.invariant.gathered_is;
+  gathered_is = emptied c.self.inside.lexicon.now c.self.inside.numbers.items c.self.inside.gathered c.count_all.new.instances (c.count_all.ensures.names ∙ c.settle.ensures.names) c.count_all.ensures.given c.self.invariant.gathered_is;
   ready = c.in_err-count_all.ensures.ready;
 }
 
 pub invariant_of-self-2 : goal.invariant_of-self-2
 invariant_of-self-2 c = record {
-  gathered_is = ended c.self.inside.lexicon.now c.self.inside.numbers.items c.clear.new.self.items c.self.inside.gathered c.clear-2.new.self c.clear.ensures.items (c.clear-2.ensures.names ∙ c.settle.ensures.names) c.clear-2.ensures.given c.self.invariant.gathered_is;
-  ready = subst (λ (names : List (List ℕ)). AreReady names c.self.inside.lexicon.now c.count_all.new.counter) (sym c.clear-2.ensures.names) c.in_ok-count_all.ensures.ready;
+  gathered_is = ended c.self.inside.lexicon.now c.self.inside.numbers.items c.clear.new.self.items c.self.inside.gathered c.count_all.new.instances c.clear.ensures.items (c.count_all.ensures.names ∙ c.settle.ensures.names) c.count_all.ensures.given c.self.invariant.gathered_is;
+  ready = c.in_ok-count_all.ensures.ready;
 }
 
 pub returns-clause-ok : goal.returns-clause-ok

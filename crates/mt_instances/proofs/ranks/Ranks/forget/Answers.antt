@@ -1,6 +1,6 @@
 use Rattle.std.proofs.Common.{None, get_or, arith}
 use Rattle.std.proofs.lemmas.Option.{slice_get-get_or}
-use Rattle.mt_instances.specs.declared.entry.Entry.{Entry}
+use Rattle.mt_counts.specs.declared.note.Note.{Note}
 use Rattle.mt_instances.proofs.Forgetting.{all_forgotten, none_more, set_more}
 use Rattle.mt_instances.proofs.ranks.Ranks.forget.Goals as goal
 use Rattle.mt_instances.proofs.ranks.Ranks.forget.Goals.{then-name-len, else-name-len}
@@ -8,7 +8,7 @@ use Rattle.mt_instances.proofs.ranks.Ranks.forget.Goals.{then-name-len, else-nam
 pub loop-entry-preserved : goal.loop-entry-preserved
 loop-entry-preserved c =
     let entries = c.args.entries.now in
-    let none : Entry = record { name = 0; first = 0; second = None } in
+    let none : Note = record { name = 0; first = 0; second = None } in
     let k = c.loop-entry.entry-index in
     let ends = c.loop-entry.self-inside.ends.items in
     let there = slice_get-get_or entries k none c.loop-entry-test.true in
