@@ -10,6 +10,7 @@ ghost use Rattle.mt_automaton.specs.Compiled.{IsOf};
 ghost use Rattle.mt_automaton.specs.RowsFrom.{IsRowOfText, HasLonger};
 ghost use Rattle.mt_prepare.specs.Prepared.{IsPrepared, IsReady};
 ghost use Rattle.mt_prepare.specs.Sighted.{IsSighted};
+ghost use Rattle.mt_prepare.specs.KnownRows.{AreKnownIn};
 ghost use Rattle.mt_rows.specs.Appends.{Appends};
 ghost use Rattle.mt_eval_spec.specs.Told.{IsFor, told};
 ghost use Rattle.mt_eval_spec.specs.RowsIn.{PassesRoom, RowsIn, expr_at, heads};
@@ -31,7 +32,7 @@ use mt_automaton::{Automaton, Pool, labels_stand};
 use mt_base::Steps;
 use mt_cql::{Expr, Query};
 use mt_eval_laws::{have_rows_in, no_more_than_all, places_are_listed};
-use mt_prepare::{Prepared, PreparedExpr, Resolved, Sighted};
+use mt_prepare::{KnownRows, Prepared, PreparedExpr, Resolved, Sighted};
 use mt_rows::{EvalError, RowList, Rows};
 use mt_segment::Segment;
 use mt_segment_laws::tables_are_whole;
@@ -130,12 +131,15 @@ fn rows_by_automaton<L: Ledger>(
     expr: &Expr,
     ready: &PreparedExpr,
     room: u32,
+    known: &mut KnownRows,
     steps: &mut Steps<L>,
 ) -> Result<Rows, EvalError>
     requires query { IsFor asked.now.segment.now asked.now.query.now }
     requires texts { AreTexts asked.now.segment.now asked.now.texts.now }
     requires valid { (number : _) × (number < length (heads asked.now.query.now)) × (expr_at (heads asked.now.query.now) number ≡ shape expr.now) }
     requires ready { IsReady asked.now.segment.now (shape expr.now) ready.now }
+    requires known { AreKnownIn asked.now.segment.now known.old }
+    ensures known { AreKnownIn asked.now.segment.now known.new }
     ensures rows { IfOk result (λ rows. RowsIn asked.now.segment.now asked.now.texts.now (shape expr.now) rows) }
     ensures room { IfOk result (λ rows. length rows ≤ room) }
     ensures too_many { IsErrOf result EvalError.TooManyRows → PassesRoom asked.now.segment.now asked.now.texts.now (shape expr.now) room }
@@ -144,7 +148,7 @@ fn rows_by_automaton<L: Ledger>(
     labels_stand();
     let automaton = Automaton::compile(alloc, expr)?;
     let mut pool = Pool::new(alloc);
-    let mut sighted = Sighted::new(alloc, &mut pool, expr, ready, asked.segment, steps)?;
+    let mut sighted = Sighted::new(alloc, &mut pool, known, expr, ready, asked.segment, steps)?;
     rows_in_texts(alloc, asked, expr, ready, &automaton, &mut sighted, room)
 }
 
@@ -224,12 +228,15 @@ fn rows_by_places<L: Ledger>(
     expr: &Expr,
     ready: &PreparedExpr,
     room: u32,
+    known: &mut KnownRows,
     steps: &mut Steps<L>,
 ) -> Result<Rows, EvalError>
     requires query { IsFor asked.now.segment.now asked.now.query.now }
     requires texts { AreTexts asked.now.segment.now asked.now.texts.now }
     requires valid { (number : _) × (number < length (heads asked.now.query.now)) × (expr_at (heads asked.now.query.now) number ≡ shape expr.now) }
     requires ready { IsReady asked.now.segment.now (shape expr.now) ready.now }
+    requires known { AreKnownIn asked.now.segment.now known.old }
+    ensures known { AreKnownIn asked.now.segment.now known.new }
     ensures rows { IfOk result (λ rows. RowsIn asked.now.segment.now asked.now.texts.now (shape expr.now) rows) }
     ensures room { IfOk result (λ rows. length rows ≤ room) }
     ensures too_many { IsErrOf result EvalError.TooManyRows → PassesRoom asked.now.segment.now asked.now.texts.now (shape expr.now) room }
@@ -244,7 +251,7 @@ fn rows_by_places<L: Ledger>(
         return rows_by_scan(alloc, asked, &sequence, room, steps);
     }
     match short_gap(asked.segment, expr, tests) {
-        None => rows_by_automaton(alloc, asked, expr, ready, room, steps),
+        None => rows_by_automaton(alloc, asked, expr, ready, room, known, steps),
         Some(gap) => rows_by_gap(alloc, asked, &around(expr, tests, gap), room, steps),
     }
 }
@@ -330,6 +337,7 @@ pub(crate) fn rows_of<L: Ledger>(
     expr: &Expr,
     number: usize,
     room: u32,
+    known: &mut KnownRows,
     steps: &mut Steps<L>,
 ) -> Result<RowList, EvalError>
     requires query { IsFor asked.now.segment.now asked.now.query.now }
@@ -337,6 +345,8 @@ pub(crate) fn rows_of<L: Ledger>(
     requires texts { AreTexts asked.now.segment.now asked.now.texts.now }
     requires number { number < length (heads asked.now.query.now) }
     requires expr { expr_at (heads asked.now.query.now) number ≡ shape expr.now }
+    requires known { AreKnownIn asked.now.segment.now known.old }
+    ensures known { AreKnownIn asked.now.segment.now known.new }
     ensures rows { IfOk result (λ rows. RowsIn asked.now.segment.now asked.now.texts.now (expr_at (heads asked.now.query.now) number) rows) }
     ensures room { IfOk result (λ rows. length rows ≤ room) }
     ensures too_many { IsErrOf result EvalError.TooManyRows → PassesRoom asked.now.segment.now asked.now.texts.now (expr_at (heads asked.now.query.now) number) room }
@@ -349,7 +359,7 @@ pub(crate) fn rows_of<L: Ledger>(
     let ready = asked.prepared.exprs.get(number);
     match looked_by(asked.segment, expr, ready.tests.as_slice()) {
         None => {
-            let rows = rows_by_places(alloc, asked, expr, ready, room, steps)?;
+            let rows = rows_by_places(alloc, asked, expr, ready, room, known, steps)?;
             Ok(RowList::new(rows))
         }
         Some(by) => {

@@ -4,6 +4,7 @@ ghost use Rattle.std.specs.Prelude.{◌≡◌, ◌-◌, ◌≤◌, [], length, I
 ghost use Rattle.std.specs.List.{All, Contains};
 ghost use Rattle.mt_text_spec.specs.Orders.{row_cmp};
 ghost use Rattle.mt_match_spec.specs.Rows.{ListsAll};
+ghost use Rattle.mt_prepare.specs.KnownRows.{AreKnownIn};
 ghost use Rattle.mt_prepare.specs.Prepared.{IsPrepared};
 ghost use Rattle.mt_eval_spec.specs.Told.{IsFor};
 ghost use Rattle.mt_eval_spec.specs.Literals.{AreFew, IsPlain};
@@ -17,6 +18,7 @@ use super::run::{let_pass, take_rows};
 use mt_base::{List, NoMemory, Steps};
 use mt_cql::Cond;
 use mt_eval_laws::labels_are_inside;
+use mt_prepare::KnownRows;
 use mt_rows::{EvalError, RowList};
 use mt_segment::Segment;
 use std::alloc::Global;
@@ -50,12 +52,15 @@ pub(crate) fn kept_rows<L: Ledger>(
     alloc: Global,
     asked: &Asked<'_>,
     rooms: &mut List<u32>,
+    known: &mut KnownRows,
     steps: &mut Steps<L>,
 ) -> Result<RowList, EvalError>
     requires query { IsFor asked.now.segment.now asked.now.query.now }
     requires prepared { IsPrepared asked.now.segment.now asked.now.query.now asked.now.prepared.now }
     requires texts { AreTexts asked.now.segment.now asked.now.texts.now }
     requires rooms { length rooms.old ≡ length (heads asked.now.query.now) }
+    requires known { AreKnownIn asked.now.segment.now known.old }
+    ensures known { AreKnownIn asked.now.segment.now known.new }
     ensures rises { steps.old ≤ steps.new }
     ensures steps { IsPlain asked.now.query.now → AreFew asked.now.segment.now asked.now.query.now.head (steps.new - steps.old) }
     ensures kept { IfOk result (λ rows. KeptIn asked.now.segment.now asked.now.texts.now asked.now.query.now rows) }
@@ -64,7 +69,7 @@ pub(crate) fn kept_rows<L: Ledger>(
 {
     labels_are_inside();
     let mut marks = Vec::new(alloc);
-    let mut rows = take_rows(alloc, asked, asked.query.head(), 0, rooms, steps)?;
+    let mut rows = take_rows(alloc, asked, asked.query.head(), 0, rooms, known, steps)?;
     let_pass(
         alloc,
         asked,
@@ -73,6 +78,7 @@ pub(crate) fn kept_rows<L: Ledger>(
         &mut rows,
         rooms,
         &mut marks,
+        known,
         steps,
     )?;
     let conds = asked.query.conds().as_slice();

@@ -5,6 +5,7 @@
 #![tactic(auto)]
 
 ghost use Rattle.std.specs.Prelude.{◌≡◌, ◌-◌, ◌≤◌, length, IfOk, OnOk, IsErrOf};
+ghost use Rattle.mt_prepare.specs.KnownRows.{AreKnownIn};
 ghost use Rattle.mt_prepare.specs.Prepared.{IsPrepared};
 ghost use Rattle.mt_eval_spec.specs.Told.{IsFor};
 ghost use Rattle.mt_eval_spec.specs.Literals.{AreFew, IsPlain};
@@ -30,7 +31,7 @@ use finding::Asked;
 use kept::kept_rows;
 use mt_base::{List, Steps};
 use mt_cql::Query;
-pub use mt_prepare::{PatternError, Patterns, Prepared, check, prepare};
+pub use mt_prepare::{KnownRows, PatternError, Patterns, Prepared, check, prepare};
 pub use mt_rows::{EvalError, RowList};
 use mt_segment::Segment;
 pub use query_spans::QuerySpans;
@@ -39,6 +40,7 @@ use std::sync::ledger::Ledger;
 
 /// The rows that a query keeps in the texts with these numbers, ascending and numbered in the segment. There is a room for the head and then one for each operand, in
 /// the order of `prepare`: how many rows each may have, before filters and conditions. Each is lowered by the rows that it has; after an error the rooms are unknown.
+/// Rows of values that are known for the segment are not found again, and those that are found are kept for the next query, as far as there is room for them.
 /// A position that is read and a value that is looked at are a step each. A sequence of `==` tests alone takes at most as many steps as there are tests at each place of
 /// the rarest of its values.
 pub fn eval<L: Ledger>(
@@ -48,12 +50,15 @@ pub fn eval<L: Ledger>(
     segment: &Segment,
     texts: &List<u32>,
     rooms: &mut List<u32>,
+    known: &mut KnownRows,
     steps: &mut Steps<L>,
 ) -> Result<RowList, EvalError>
     requires query { IsFor segment.now query.now }
     requires prepared { IsPrepared segment.now query.now prepared.now }
     requires texts { AreTexts segment.now texts.now }
     requires rooms { length rooms.old ≡ length (heads query.now) }
+    requires known { AreKnownIn segment.now known.old }
+    ensures known { AreKnownIn segment.now known.new }
     ensures rises { steps.old ≤ steps.new }
     ensures few { IsPlain query.now → AreFew segment.now query.now.head (steps.new - steps.old) }
     ensures kept { IfOk result (λ rows. KeptIn segment.now texts.now query.now rows) }
@@ -66,5 +71,5 @@ pub fn eval<L: Ledger>(
         segment,
         texts: texts.as_slice(),
     };
-    kept_rows(alloc, &asked, rooms, steps)
+    kept_rows(alloc, &asked, rooms, known, steps)
 }

@@ -8,6 +8,7 @@ ghost use Rattle.mt_cql.specs.Shape.{shape, kind_shape, filters_shape};
 ghost use Rattle.mt_rows.specs.Rows.{IsSpanIn};
 ghost use Rattle.mt_match_spec.specs.Rows.{ListsAll};
 ghost use Rattle.mt_match_spec.specs.Kept.{Passes};
+ghost use Rattle.mt_prepare.specs.KnownRows.{AreKnownIn};
 ghost use Rattle.mt_prepare.specs.Prepared.{IsPrepared};
 ghost use Rattle.mt_eval_spec.specs.Told.{IsFor};
 ghost use Rattle.mt_text_spec.specs.Queries.{NoMore};
@@ -20,6 +21,7 @@ use super::finding::{Asked, rows_of};
 use super::query_spans::QuerySpans;
 use mt_base::{List, NoMemory, Span, Steps};
 use mt_cql::{Expr, FilterKind, Filters};
+use mt_prepare::KnownRows;
 use mt_rows::{EvalError, RowList};
 use std::alloc::Global;
 use std::sync::ledger::Ledger;
@@ -31,6 +33,7 @@ pub(crate) fn take_rows<L: Ledger>(
     expr: &Expr,
     number: usize,
     rooms: &mut List<u32>,
+    known: &mut KnownRows,
     steps: &mut Steps<L>,
 ) -> Result<RowList, EvalError>
     requires query { IsFor asked.now.segment.now asked.now.query.now }
@@ -39,6 +42,8 @@ pub(crate) fn take_rows<L: Ledger>(
     requires number { number < length (heads asked.now.query.now) }
     requires expr { expr_at (heads asked.now.query.now) number ≡ shape expr.now }
     requires room { number < length rooms.old }
+    requires known { AreKnownIn asked.now.segment.now known.old }
+    ensures known { AreKnownIn asked.now.segment.now known.new }
     ensures rows { IfOk result (λ rows. RowsIn asked.now.segment.now asked.now.texts.now (expr_at (heads asked.now.query.now) number) rows) }
     ensures rooms { IfOk result (λ rows. LowersOne number (length rows) rooms.old rooms.new) }
     ensures few { number < 18446744073709551615 }
@@ -49,7 +54,7 @@ pub(crate) fn take_rows<L: Ledger>(
 {
     rooms.len();
     let room = *rooms.get(number);
-    let rows = rows_of(alloc, asked, expr, number, room, steps)?;
+    let rows = rows_of(alloc, asked, expr, number, room, known, steps)?;
     rooms.replace_range(number, number + 1, Some(room - rows.len() as u32));
     Ok(rows)
 }
@@ -98,6 +103,7 @@ pub(crate) fn let_pass<L: Ledger>(
     rows: &mut RowList,
     rooms: &mut List<u32>,
     marks: &mut Vec<bool>,
+    known: &mut KnownRows,
     steps: &mut Steps<L>,
 ) -> Result<usize, EvalError>
     requires query { IsFor asked.now.segment.now asked.now.query.now }
@@ -105,6 +111,8 @@ pub(crate) fn let_pass<L: Ledger>(
     requires texts { AreTexts asked.now.segment.now asked.now.texts.now }
     requires stand { StandAt (heads asked.now.query.now) (operands (filters_shape filters.now)) first }
     requires rooms { length rooms.old ≡ length (heads asked.now.query.now) }
+    requires known { AreKnownIn asked.now.segment.now known.old }
+    ensures known { AreKnownIn asked.now.segment.now known.new }
     ensures rises { steps.old ≤ steps.new }
     ensures steps { filters_shape filters.now ≡ NoMore → steps.new ≡ steps.old }
     ensures next { IfOk result (λ next. next ≡ first + length (operands (filters_shape filters.now))) }
@@ -118,7 +126,7 @@ pub(crate) fn let_pass<L: Ledger>(
             Ok(first)
         }
         Filters::More(filter_of, others) => {
-            let mut own = take_rows(alloc, asked, &filter_of.head, first, rooms, steps)?;
+            let mut own = take_rows(alloc, asked, &filter_of.head, first, rooms, known, steps)?;
             let next = let_pass(
                 alloc,
                 asked,
@@ -127,10 +135,11 @@ pub(crate) fn let_pass<L: Ledger>(
                 &mut own,
                 rooms,
                 marks,
+                known,
                 steps,
             )?;
             pass_by(alloc, rows, filter_of.kind, own, marks)?;
-            let_pass(alloc, asked, others, next, rows, rooms, marks, steps)
+            let_pass(alloc, asked, others, next, rows, rooms, marks, known, steps)
         }
     }
 }

@@ -10,7 +10,7 @@ use Rattle.std.proofs.lemmas.List.{length-map}
 use Rattle.std.proofs.lemmas.List.Concat.{length-flat_map}
 use Rattle.std.proofs.lemmas.List.Elements.{All-contains}
 use Rattle.std.proofs.lemmas.List.Sums.{sum-map}
-use Rattle.std.proofs.lemmas.Option.{slice_get_within, slice_get-get_or, get_or_from_slice_get, same_Some}
+use Rattle.std.proofs.lemmas.Option.{slice_get_within, slice_get-get_or, get_or_from_slice_get}
 use Rattle.std.proofs.lemmas.Simd.{map-map}
 use Rattle.mt_text_spec.specs.Registries.{Registry}
 use Rattle.mt_text_spec.specs.Texts.{Text, tokens_of, total_tokens}
@@ -85,24 +85,6 @@ lists_places law tables known attr l id low =
     }
 
 -- ## List after list
-
--- the row of one value, from its list
-pub one_listed : NumbersStandForValues → (tables : Tables) → AreTables tables → (attr : ℕ) → attr < length tables.attrs → (id : ℕ) → id < length (tables_at tables.attrs attr).lexicon → (old new : List ℕ)
-    → length old ≡ token_count tables / 64 + 1 → ((place : ℕ) → In old place → ⊥) → length new ≡ length old → HasJust (λ place. In old place ⊎ Contains (get_or (tables_at tables.attrs attr).postings id []) place) new
-    → IsRow (token_count tables) (λ place. Some id ≡ Some (number_at tables attr place)) new
-one_listed law tables known attr l id low old new width none same just = record {
-  width = same ∙ width;
-  places = record {
-    sound = λ k i. elim (just.sound k i) [
-      | inl o ↦ absurd (none k o)
-      | inr c ↦ let p = lists.on k c in (p.0, ap (λ (n : ℕ). Some n) (sym p.1))
-    ];
-    complete = λ k p lt. just.complete k (inr (lists.back k p.0 (sym (same_Some id (number_at tables attr k) p.1)))) lt;
-  };
-}
-  where
-    lists : ListsPlaces tables attr id
-    lists = lists_places law tables known attr l id low
 
 pub no_list : (tables : Tables) (attr : ℕ) (numbers row : List ℕ) → ((place : ℕ) → In row place → ⊥) → HasJust (IsListedBelow tables attr numbers 0) row
 no_list tables attr numbers row none = record { sound = λ k i. absurd (none k i); complete = λ k p lt. absurd (omega (arith, p.below)) }

@@ -4,6 +4,7 @@ pub mod Judges
 pub mod Prepared
 pub mod Resolved
 pub mod TestRows
+pub mod KnownRows
 pub mod TagRows
 pub mod Viewed
 pub mod Sighted

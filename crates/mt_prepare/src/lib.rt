@@ -2,6 +2,7 @@
 #![tactic(auto)]
 
 mod judges;
+mod known_rows;
 mod patterns;
 mod prepared;
 mod resolved;
@@ -13,6 +14,7 @@ mod test_rows;
 mod tests_resolved;
 mod view;
 
+pub use known_rows::KnownRows;
 pub use patterns::{PatternError, Patterns, check};
 pub use prepared::{Prepared, PreparedExpr, prepare};
 pub use resolved::Resolved;

@@ -8,10 +8,12 @@ ghost use Rattle.mt_automaton.specs.Parts.{Tag};
 ghost use Rattle.mt_prepare.specs.Asks.{HasAttr, HasKind, Names};
 ghost use Rattle.mt_prepare.specs.Resolved.{AreSpansOf};
 ghost use Rattle.mt_prepare.specs.TestRows.{HasAttrs};
+ghost use Rattle.mt_prepare.specs.KnownRows.{AreKnownIn};
 ghost use Rattle.mt_prepare.specs.TagRows.{AreRowsOf};
 ghost use Rattle.mt_prepare.specs.Prepared.{IsReady};
 ghost use Rattle.mt_prepare.specs.Sighted.{tag_kinds, IsRowOfResolved, IsSighted, HasEntered};
 
+use crate::known_rows::KnownRows;
 use crate::prepared::PreparedExpr;
 use crate::resolved::Resolved;
 use crate::tag_rows::TagRows;
@@ -34,21 +36,24 @@ pub struct Sighted {
 }
 
 impl Sighted {
-    /// The rows of the tests of an expression. No text is entered yet.
+    /// The rows of the tests of an expression; those of values that are known for the segment are not found again. No text is entered yet.
     pub fn new<L: Ledger>(
         alloc: Global,
         pool: &mut Pool,
+        known: &mut KnownRows,
         expr: &Expr,
         ready: &PreparedExpr,
         segment: &Segment,
         steps: &mut Steps<L>,
     ) -> Result<Self, NoMemory>
         requires ready { IsReady segment.now (shape expr.now) ready.now }
-        requires known { Names (HasAttr segment.now) (HasKind segment.now) (shape expr.now) }
+        requires names { Names (HasAttr segment.now) (HasKind segment.now) (shape expr.now) }
+        requires known { AreKnownIn segment.now known.old }
+        ensures known { AreKnownIn segment.now known.new }
         ensures sighted { IfOk result (λ sighted. IsSighted segment.now (shape expr.now) sighted) }
         ensures rises { steps.old ≤ steps.new }
     {
-        let rows = rows_of(alloc, pool, ready.tests.as_slice(), segment, steps)?;
+        let rows = rows_of(alloc, pool, known, ready.tests.as_slice(), segment, steps)?;
         let mut kinds = Vec::new(alloc);
         add_kinds(expr, &mut kinds)?;
         let tags = no_rows(alloc, kinds.len())?;
@@ -104,17 +109,20 @@ impl Sighted {
 fn rows_of<L: Ledger>(
     alloc: Global,
     pool: &mut Pool,
+    known: &mut KnownRows,
     tests: &[Resolved],
     segment: &Segment,
     steps: &mut Steps<L>,
 ) -> Result<Vec<Places>, NoMemory>
-    requires { All (HasAttrs segment.now) tests.now }
+    requires attrs { All (HasAttrs segment.now) tests.now }
+    requires known { AreKnownIn segment.now known.old }
+    ensures known { AreKnownIn segment.now known.new }
     ensures rows { IfOk result (λ rows. AllZip (IsRowOfResolved segment.now) tests.now rows.items) }
     ensures rises { steps.old ≤ steps.new }
 {
     let mut rows = Vec::with_capacity(alloc, tests.len())?;
     for test in tests {
-        rows.push(row_of(pool, test, segment, steps)?)?;
+        rows.push(row_of(pool, known, test, segment, steps)?)?;
     }
     Ok(rows)
 }

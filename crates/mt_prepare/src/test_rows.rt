@@ -6,7 +6,9 @@ ghost use Rattle.mt_places.specs.Places.{In, HasJust, room};
 ghost use Rattle.mt_match_spec.specs.Tests.{Unless};
 ghost use Rattle.mt_segment_spec.specs.Tables.{number_at, tables_at, token_count};
 ghost use Rattle.mt_prepare.specs.TestRows.{IsRow, SaysAt, HasAttrs, NumberIsIn, AreNumbers, IsListedBelow};
+ghost use Rattle.mt_prepare.specs.KnownRows.{AreKnownIn};
 
+use crate::known_rows::KnownRows;
 use crate::resolved::Resolved;
 use mt_automaton::Pool;
 use mt_base::{NoMemory, Steps};
@@ -17,41 +19,44 @@ use mt_segment::{Column, MappedTable, Segment};
 use mt_segment_laws::{numbers_stand_for_values, tables_are_whole};
 use std::sync::ledger::Ledger;
 
-/// The places of a segment of which a test holds. What is read of a column or of a posting list is a step each.
+/// The places of a segment of which a test holds. What is read of a column or of a posting list is a step each; a row of values that is known is not found again.
 pub fn row_of<L: Ledger>(
     pool: &mut Pool,
+    known: &mut KnownRows,
     test: &Resolved,
     segment: &Segment,
     steps: &mut Steps<L>,
 ) -> Result<Places, NoMemory>
-    requires { HasAttrs segment.now test.now }
+    requires attrs { HasAttrs segment.now test.now }
+    requires known { AreKnownIn segment.now known.old }
+    ensures known { AreKnownIn segment.now known.new }
     ensures row { IfOk result (IsRow (token_count segment.now) (SaysAt segment.now test.now)) }
     ensures rises { steps.old ≤ steps.new }
 {
     match test {
         Resolved::Any => whole_row(pool, segment.tokens()),
         Resolved::One { attr, id, not } => {
-            let row = one_row(pool, segment, *attr, *id, steps)?;
+            let row = one_row(pool, known, segment, *attr, *id, steps)?;
             unless(pool, *not, row, segment.tokens())
         }
         Resolved::Some { attr, ids, not } => {
-            let row = some_row(pool, segment, *attr, ids, steps)?;
+            let row = some_row(pool, known, segment, *attr, ids, steps)?;
             unless(pool, *not, row, segment.tokens())
         }
         Resolved::Not(inner) => {
-            let row = row_of(pool, inner, segment, steps)?;
+            let row = row_of(pool, known, inner, segment, steps)?;
             complement(pool, row, segment.tokens())
         }
         Resolved::Both(left, right) => {
-            let mut row = row_of(pool, left, segment, steps)?;
-            let other = row_of(pool, right, segment, steps)?;
+            let mut row = row_of(pool, known, left, segment, steps)?;
+            let other = row_of(pool, known, right, segment, steps)?;
             row.keep(&other);
             pool.give(other);
             Ok(row)
         }
         Resolved::Either(left, right) => {
-            let mut row = row_of(pool, left, segment, steps)?;
-            let other = row_of(pool, right, segment, steps)?;
+            let mut row = row_of(pool, known, left, segment, steps)?;
+            let other = row_of(pool, known, right, segment, steps)?;
             row.add(&other);
             pool.give(other);
             Ok(row)
@@ -99,62 +104,18 @@ fn unless(pool: &mut Pool, not: bool, row: Places, tokens: u32) -> Result<Places
     }
 }
 
-/// The row of one value's places, by its number; none where there is no such value.
+/// The row of one value's places, by a set that has its number, or none where there is no such value.
 fn one_row<L: Ledger>(
     pool: &mut Pool,
+    known: &mut KnownRows,
     segment: &Segment,
     attr: u16,
     id: Option<u32>,
-    steps: &mut Steps<L>,
-) -> Result<Places, NoMemory>
-    requires { attr < length segment.now.attrs }
-    ensures row { IfOk result (IsRow (token_count segment.now) (λ place. id ≡ Some (number_at segment.now attr place))) }
-    ensures rises { steps.old ≤ steps.new }
-{
-    if let Some(id) = id {
-        if is_short(segment, attr, id) {
-            return listed_row(pool, segment, attr, id, steps);
-        }
-    }
-    marked_row(pool, segment, attr, id, steps)
-}
-
-/// Whether a number is that of a value with a short posting list.
-fn is_short(segment: &Segment, attr: u16, id: u32) -> bool
-    requires { attr < length segment.now.attrs }
-    ensures { IsTrue result → id < length (tables_at segment.now.attrs attr).lexicon }
-{
-    id < segment.lexicon(attr).len() && segment.postings(attr, id).len() <= segment.tokens() / 2
-}
-
-/// The row of one value's places, from its posting list.
-fn listed_row<L: Ledger>(
-    pool: &mut Pool,
-    segment: &Segment,
-    attr: u16,
-    id: u32,
     steps: &mut Steps<L>,
 ) -> Result<Places, NoMemory>
     requires attr { attr < length segment.now.attrs }
-    requires id { id < length (tables_at segment.now.attrs attr).lexicon }
-    ensures row { IfOk result (IsRow (token_count segment.now) (λ place. Some id ≡ Some (number_at segment.now attr place))) }
-    ensures rises { steps.old ≤ steps.new }
-{
-    numbers_stand_for_values();
-    let mut row = pool.none(row_width(segment.tokens()))?;
-    add_list(&mut row, segment.postings(attr, id), steps);
-    Ok(row)
-}
-
-/// The row of one value's places, by a set that has its number, or none where there is no such value.
-fn marked_row<L: Ledger>(
-    pool: &mut Pool,
-    segment: &Segment,
-    attr: u16,
-    id: Option<u32>,
-    steps: &mut Steps<L>,
-) -> Result<Places, NoMemory>
-    requires { attr < length segment.now.attrs }
+    requires known { AreKnownIn segment.now known.old }
+    ensures known { AreKnownIn segment.now known.new }
     ensures row { IfOk result (IsRow (token_count segment.now) (λ place. id ≡ Some (number_at segment.now attr place))) }
     ensures rises { steps.old ≤ steps.new }
 {
@@ -163,7 +124,7 @@ fn marked_row<L: Ledger>(
     let count = segment.lexicon(attr).len();
     let mut numbers = pool.none(row_width(count))?;
     mark_one(&mut numbers, id, count);
-    let row = numbers_row(pool, segment, attr, &numbers, steps)?;
+    let row = numbers_row(pool, known, segment, attr, &numbers, steps)?;
     pool.give(numbers);
     Ok(row)
 }
@@ -171,12 +132,15 @@ fn marked_row<L: Ledger>(
 /// The row of the places of values whose numbers are in a set.
 fn some_row<L: Ledger>(
     pool: &mut Pool,
+    known: &mut KnownRows,
     segment: &Segment,
     attr: u16,
     ids: &IdSet,
     steps: &mut Steps<L>,
 ) -> Result<Places, NoMemory>
-    requires { attr < length segment.now.attrs }
+    requires attr { attr < length segment.now.attrs }
+    requires known { AreKnownIn segment.now known.old }
+    ensures known { AreKnownIn segment.now known.new }
     ensures row { IfOk result (IsRow (token_count segment.now) (λ place. slice_get ids.now (number_at segment.now attr place) ≡ Some true)) }
     ensures rises { steps.old ≤ steps.new }
 {
@@ -185,7 +149,7 @@ fn some_row<L: Ledger>(
     let count = segment.lexicon(attr).len();
     let mut numbers = pool.none(row_width(count))?;
     mark_some(&mut numbers, ids, count);
-    let row = numbers_row(pool, segment, attr, &numbers, steps)?;
+    let row = numbers_row(pool, known, segment, attr, &numbers, steps)?;
     pool.give(numbers);
     Ok(row)
 }
@@ -218,8 +182,34 @@ fn mark_some(numbers: &mut Places, ids: &IdSet, count: u32)
     }
 }
 
-/// The row of the places where the number of an attribute's value is in a set.
+/// The row of the places where the number of an attribute's value is in a set. Where it was found before it is copied.
 fn numbers_row<L: Ledger>(
+    pool: &mut Pool,
+    known: &mut KnownRows,
+    segment: &Segment,
+    attr: u16,
+    numbers: &Places,
+    steps: &mut Steps<L>,
+) -> Result<Places, NoMemory>
+    requires attr { attr < length segment.now.attrs }
+    requires numbers { AreNumbers segment.now attr numbers.now }
+    requires known { AreKnownIn segment.now known.old }
+    ensures known { AreKnownIn segment.now known.new }
+    ensures row { IfOk result (IsRow (token_count segment.now) (NumberIsIn segment.now attr numbers.now)) }
+    ensures rises { steps.old ≤ steps.new }
+{
+    match known.find(attr, numbers) {
+        Some(row) => pool.copy(row),
+        None => {
+            let row = new_row(pool, segment, attr, numbers, steps)?;
+            known.keep(pool, attr, numbers, &row);
+            Ok(row)
+        }
+    }
+}
+
+/// The row of the places where the number of an attribute's value is in a set, from the tables of the segment.
+fn new_row<L: Ledger>(
     pool: &mut Pool,
     segment: &Segment,
     attr: u16,

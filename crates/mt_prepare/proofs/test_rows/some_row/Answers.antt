@@ -13,4 +13,4 @@ returns-clause-row g c =
     let e : count ≡ length (tables_at tables.attrs attr).lexicon = c.len-count.ensures.number ∙ ap length c.lexicon.ensures in
     let fits : count ≤ room numbers = omega (arith, c.mark_some.ensures.width, c.in_ok-numbers.ensures.width, c.row_width.ensures.is) in
     by_numbers (token_count tables) count (λ (place : ℕ). number_at tables attr place) (λ (n : ℕ). slice_get c.args.ids.now n ≡ Some true) numbers c.in_ok-row.row c.mark_some.ensures.numbers fits
-    (λ place lt. omega (arith, (c.tables_are_whole.ensures tables c.tokens-tokens.ensures.valid).within attr place c.requires lt, e)) c.in_ok-row.ensures.row
+    (λ place lt. omega (arith, (c.tables_are_whole.ensures tables c.tokens-tokens.ensures.valid).within attr place c.requires.attr lt, e)) c.in_ok-row.ensures.row

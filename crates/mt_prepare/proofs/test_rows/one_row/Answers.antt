@@ -2,7 +2,7 @@ use Rattle.std.proofs.Common.{◌≡◌, ℕ, ◌≤◌, length, Some, ◌∙◌
 use Rattle.mt_places.specs.Places.{room}
 use Rattle.mt_segment_spec.specs.Tables.{number_at, tables_at, token_count}
 use Rattle.mt_prepare.proofs.Rows.{by_numbers}
-use Rattle.mt_prepare.proofs.test_rows.marked_row.Goals as goal
+use Rattle.mt_prepare.proofs.test_rows.one_row.Goals as goal
 
 pub returns-clause-row : goal.returns-clause-row
 returns-clause-row g c =
@@ -13,4 +13,4 @@ returns-clause-row g c =
     let e : count ≡ length (tables_at tables.attrs attr).lexicon = c.len-count.ensures.number ∙ ap length c.lexicon.ensures in
     let fits : count ≤ room numbers = omega (arith, c.mark_one.ensures.width, c.in_ok-numbers.ensures.width, c.row_width.ensures.is) in
     by_numbers (token_count tables) count (λ (place : ℕ). number_at tables attr place) (λ (n : ℕ). c.args.id ≡ Some n) numbers c.in_ok-row.row c.mark_one.ensures.numbers fits
-    (λ place lt. omega (arith, (c.tables_are_whole.ensures tables c.tokens-tokens.ensures.valid).within attr place c.requires lt, e)) c.in_ok-row.ensures.row
+    (λ place lt. omega (arith, (c.tables_are_whole.ensures tables c.tokens-tokens.ensures.valid).within attr place c.requires.attr lt, e)) c.in_ok-row.ensures.row

@@ -1,0 +1,6 @@
+-- The words so far are the same.
+use Rattle.std.proofs.Common.{◌≡◌, take}
+use Rattle.mt_prepare.proofs.known_rows.are_same.Given as goal
+
+abbrev pub invariant-loop-at : goal.invariant-loop-at
+invariant-loop-at l = take l.at l.one ≡ take l.at l.other
