@@ -143,7 +143,7 @@ fn count_one<P: PatternShop, L: Ledger>(
     Ok(())
 }
 
-/// Counts a text whose segment is built and may be kept, before it is.
+/// Counts a text whose segment is built and may be kept, before it is. After an error nothing is known of the counts.
 pub fn count_added<P: PatternShop>(
     alloc: Global,
     corpus: &Corpus,
@@ -180,7 +180,7 @@ pub fn count_added<P: PatternShop>(
     )
 }
 
-/// Counts the one text of this name.
+/// Counts the one text of this name. After an error nothing is known of the counts.
 pub fn count_named<P: PatternShop>(
     alloc: Global,
     corpus: &Corpus,

@@ -8,12 +8,13 @@ ghost use Rattle.mt_match_spec.specs.Values.{Images};
 ghost use Rattle.mt_match_spec.specs.Kept.{Over};
 ghost use Rattle.mt_count_spec.specs.Counts.{HasRoom};
 ghost use Rattle.mt_eval_spec.specs.Fits.{Fits};
+ghost use Rattle.mt_prepare.specs.KnownRows.{AreKnownIn};
 ghost use Rattle.mt_instances.specs.Laws.{AreOfLines, Line};
 ghost use Rattle.mt_grammar_counts.specs.Collecting.{IsReadyGrammar, IsReadyRelation, Knows, OnlyGives, all_lines, lines_of};
 ghost use Rattle.mt_grammar_counts.specs.Told.{AllFit, HasNoRoom, IsTextIn, SomeIsOver, Tells};
 
 use super::error::CountError;
-use super::query::{TextOf, add_query};
+use super::query::{Scratch, TextOf, add_query};
 use mt_base::{List, Steps};
 use mt_grammar::{Grammar, Relation};
 use mt_instances::Collector;
@@ -28,13 +29,15 @@ fn add_relation<L: Ledger>(
     prepared: &List<Prepared>,
     text: &TextOf<'_>,
     collector: &mut Collector<'_>,
-    rooms: &mut List<u32>,
+    scratch: &mut Scratch,
     steps: &mut Steps<L>,
 ) -> Result<(), CountError>
     requires text { IsTextIn text.now.registry.now text.now.segment.now text.now.number text.now.listed.now }
     requires fit { AllFit text.now.registry.now relation.now }
     requires prepared { IsReadyRelation text.now.segment.now relation.now prepared.now }
     requires known { Knows text.now.segment.now text.now.registry.now.ws_attr text.now.number collector.old }
+    requires rows { AreKnownIn text.now.segment.now scratch.old.known }
+    ensures rows { AreKnownIn text.now.segment.now scratch.new.known }
     ensures only { OnlyGives collector.old collector.new }
     ensures given { (images : Images) (of : texts.Text) (lines : Items Line) → Tells images text.now.registry.now text.now.segment.now text.now.number of
         → AreOfLines images text.now.registry.now of lines collector.old.given
@@ -48,7 +51,9 @@ fn add_relation<L: Ledger>(
     for i in 0..queries.len() {
         let query = queries.get(i);
         let ready = prepared.get(i);
-        add_query(alloc, relation, query, ready, text, collector, rooms, steps)?;
+        add_query(
+            alloc, relation, query, ready, text, collector, scratch, steps,
+        )?;
     }
     Ok(())
 }
@@ -60,13 +65,15 @@ pub(crate) fn add_lines<L: Ledger>(
     prepared: &List<List<Prepared>>,
     text: &TextOf<'_>,
     collector: &mut Collector<'_>,
-    rooms: &mut List<u32>,
+    scratch: &mut Scratch,
     steps: &mut Steps<L>,
 ) -> Result<(), CountError>
     requires text { IsTextIn text.now.registry.now text.now.segment.now text.now.number text.now.listed.now }
     requires fit { All (AllFit text.now.registry.now) grammar.now.relations }
     requires prepared { IsReadyGrammar text.now.segment.now grammar.now prepared.now }
     requires known { Knows text.now.segment.now text.now.registry.now.ws_attr text.now.number collector.old }
+    requires rows { AreKnownIn text.now.segment.now scratch.old.known }
+    ensures rows { AreKnownIn text.now.segment.now scratch.new.known }
     ensures only { OnlyGives collector.old collector.new }
     ensures given { (images : Images) (of : texts.Text) → Tells images text.now.registry.now text.now.segment.now text.now.number of
         → AreOfLines images text.now.registry.now of [] collector.old.given
@@ -80,7 +87,7 @@ pub(crate) fn add_lines<L: Ledger>(
     for i in 0..relations.len() {
         let relation = relations.get(i);
         let ready = prepared.get(i);
-        add_relation(alloc, relation, ready, text, collector, rooms, steps)?;
+        add_relation(alloc, relation, ready, text, collector, scratch, steps)?;
     }
     Ok(())
 }

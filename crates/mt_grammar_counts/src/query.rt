@@ -6,6 +6,7 @@ ghost use Rattle.mt_match_spec.specs.Values.{Images};
 ghost use Rattle.mt_match_spec.specs.Kept.{Over, operand_rows_limit};
 ghost use Rattle.mt_eval_spec.specs.Fits.{Fits};
 ghost use Rattle.mt_eval_spec.specs.RowsIn.{KeptIn};
+ghost use Rattle.mt_prepare.specs.KnownRows.{AreKnownIn};
 ghost use Rattle.mt_prepare.specs.Prepared.{IsPrepared};
 ghost use Rattle.mt_instances.specs.Laws.{AreOfLines, Line};
 ghost use Rattle.mt_grammar_counts.specs.Collecting.{Knows, OnlyGives, line_of};
@@ -21,7 +22,7 @@ use mt_eval_laws::labels_are_inside;
 use mt_grammar::Relation;
 use mt_instances::{Collector, lines_go_on};
 use mt_match_laws::rows_are_one;
-use mt_prepare::Prepared;
+use mt_prepare::{KnownRows, Prepared};
 use mt_rows::{EvalError, RowList};
 use mt_segment::Segment;
 use mt_segment_laws::{numbers_stand_for_values, tokens_stand_in_texts};
@@ -38,6 +39,13 @@ pub(crate) struct TextOf<'a> {
     pub(crate) segment: &'a Segment,
     pub(crate) number: u32,
     pub(crate) listed: &'a List<u32>,
+}
+
+/// What the queries use one after another in a segment: a list that is filled again for each, and the rows of the segment that are known so far.
+#[derive(Drop)]
+pub(crate) struct Scratch {
+    pub(crate) rooms: List<u32>,
+    pub(crate) known: KnownRows,
 }
 
 /// Makes the rooms of a head and of operands, so many in all, whole again.
@@ -57,12 +65,14 @@ fn rows_of<L: Ledger>(
     query: &Query,
     prepared: &Prepared,
     text: &TextOf<'_>,
-    rooms: &mut List<u32>,
+    scratch: &mut Scratch,
     steps: &mut Steps<L>,
 ) -> Result<RowList, CountError>
     requires text { IsTextIn text.now.registry.now text.now.segment.now text.now.number text.now.listed.now }
     requires fits { Fits text.now.registry.now query.now }
     requires prepared { IsPrepared text.now.segment.now query.now prepared.now }
+    requires rows { AreKnownIn text.now.segment.now scratch.old.known }
+    ensures rows { AreKnownIn text.now.segment.now scratch.new.known }
     ensures kept { IfOk result (KeptIn text.now.segment.now (text.now.number ∷ []) query.now) }
     ensures room { (images : Images) (of : texts.Text) → Tells images text.now.registry.now text.now.segment.now text.now.number of
         → OnOk result (¬ Over images text.now.registry.now (of ∷ []) query.now) }
@@ -74,14 +84,15 @@ fn rows_of<L: Ledger>(
     numbers_are_live();
     over_is_some();
     rows_are_one();
-    make_whole(rooms, prepared.exprs.len())?;
+    make_whole(&mut scratch.rooms, prepared.exprs.len())?;
     match eval(
         alloc,
         query,
         prepared,
         text.segment,
         text.listed,
-        rooms,
+        &mut scratch.rooms,
+        &mut scratch.known,
         steps,
     ) {
         Ok(rows) => Ok(rows),
@@ -98,13 +109,15 @@ pub(crate) fn add_query<L: Ledger>(
     prepared: &Prepared,
     text: &TextOf<'_>,
     collector: &mut Collector<'_>,
-    rooms: &mut List<u32>,
+    scratch: &mut Scratch,
     steps: &mut Steps<L>,
 ) -> Result<(), CountError>
     requires text { IsTextIn text.now.registry.now text.now.segment.now text.now.number text.now.listed.now }
     requires fits { Fits text.now.registry.now query.now }
     requires prepared { IsPrepared text.now.segment.now query.now prepared.now }
     requires known { Knows text.now.segment.now text.now.registry.now.ws_attr text.now.number collector.old }
+    requires rows { AreKnownIn text.now.segment.now scratch.old.known }
+    ensures rows { AreKnownIn text.now.segment.now scratch.new.known }
     ensures only { OnlyGives collector.old collector.new }
     ensures given { (images : Images) (of : texts.Text) (lines : Items Line) → Tells images text.now.registry.now text.now.segment.now text.now.number of
         → AreOfLines images text.now.registry.now of lines collector.old.given
@@ -121,7 +134,7 @@ pub(crate) fn add_query<L: Ledger>(
     lines_go_on();
     numbers_stand_for_values();
     tokens_stand_in_texts();
-    let rows = rows_of(alloc, query, prepared, text, rooms, steps)?;
+    let rows = rows_of(alloc, query, prepared, text, scratch, steps)?;
     collector.add_rows(relation, &rows)?;
     Ok(())
 }

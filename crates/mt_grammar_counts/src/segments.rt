@@ -15,6 +15,7 @@ ghost use Rattle.mt_grammar_counts.specs.Told.{HasNoRoom, TellAll};
 
 use super::error::CountError;
 use super::patterns::GrammarPatterns;
+use super::query::Scratch;
 use super::texts::add_texts;
 use mt_base::{List, Registry, Steps};
 use mt_corpus::Corpus;
@@ -24,9 +25,14 @@ use mt_grammar::Grammar;
 use mt_grammar_laws::grammar_queries_are_in_order;
 use mt_instances::Collector;
 use mt_pattern::PatternShop;
+use mt_prepare::KnownRows;
 use mt_segment::Segment;
 use std::alloc::Global;
+use std::mem;
 use std::sync::ledger::Ledger;
+
+/// So many rows of a segment at most are kept for the queries that ask for the same. A row has a bit for each token of the segment.
+const MOST_ROWS: usize = 32;
 
 /// Lists that are filled again for each text and query.
 #[derive(Drop)]
@@ -35,7 +41,7 @@ pub(crate) struct Buffers {
     pub(crate) rooms: List<u32>,
 }
 
-/// Counts the texts of a segment that have these numbers, each by itself. The queries of the grammar are made ready once.
+/// Counts the texts of a segment that have these numbers, each by itself. The queries of the grammar are made ready once, and share the rows of their tests.
 pub(crate) fn add_segment<'a, P: PatternShop, L: Ledger>(
     alloc: Global,
     registry: &Registry,
@@ -63,6 +69,10 @@ pub(crate) fn add_segment<'a, P: PatternShop, L: Ledger>(
     let _valid = segment.texts();
     collector.turn_to(segment.lexicon(registry.ws_attr()));
     let prepared = patterns.prepare_all(alloc, grammar, segment, shop, steps)?;
+    let mut scratch = Scratch {
+        rooms: mem::replace(&mut buffers.rooms, List::new(alloc)),
+        known: KnownRows::new(alloc, MOST_ROWS),
+    };
     let counted = add_texts(
         alloc,
         registry,
@@ -72,9 +82,10 @@ pub(crate) fn add_segment<'a, P: PatternShop, L: Ledger>(
         numbers,
         collector,
         &mut buffers.listed,
-        &mut buffers.rooms,
+        &mut scratch,
         steps,
     );
+    buffers.rooms = scratch.rooms;
     patterns.take_back(prepared);
     counted
 }

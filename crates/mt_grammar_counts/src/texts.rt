@@ -7,13 +7,14 @@ ghost use Rattle.mt_match_spec.specs.Values.{Images};
 ghost use Rattle.mt_count_spec.specs.Counts.{HasRoom};
 ghost use Rattle.mt_segment_spec.specs.Tables.{AreTablesUnder};
 ghost use Rattle.mt_eval.specs.Runs.{AreTexts};
+ghost use Rattle.mt_prepare.specs.KnownRows.{AreKnownIn};
 ghost use Rattle.mt_triples.specs.CountsOf.{AreCountsOf};
 ghost use Rattle.mt_grammar_counts.specs.Collecting.{IsFresh, IsReadyGrammar, Knows};
 ghost use Rattle.mt_grammar_counts.specs.Told.{AllFit, HasNoRoom, IsTextIn, TellAll, Tells};
 
 use super::error::CountError;
 use super::lines::add_lines;
-use super::query::TextOf;
+use super::query::{Scratch, TextOf};
 use mt_base::{List, NoMemory, Registry, Steps};
 use mt_grammar::Grammar;
 use mt_instances::{Collector, none_are_given, text_is_counted};
@@ -51,13 +52,15 @@ fn add_text<L: Ledger>(
     prepared: &List<List<Prepared>>,
     text: &TextOf<'_>,
     collector: &mut Collector<'_>,
-    rooms: &mut List<u32>,
+    scratch: &mut Scratch,
     steps: &mut Steps<L>,
 ) -> Result<(), CountError>
     requires text { IsTextIn text.now.registry.now text.now.segment.now text.now.number text.now.listed.now }
     requires fit { All (AllFit text.now.registry.now) grammar.now.relations }
     requires prepared { IsReadyGrammar text.now.segment.now grammar.now prepared.now }
     requires fresh { IsFresh text.now.segment.now text.now.registry.now.ws_attr collector.old }
+    requires rows { AreKnownIn text.now.segment.now scratch.old.known }
+    ensures rows { AreKnownIn text.now.segment.now scratch.new.known }
     ensures fresh { OnOk result (IsFresh text.now.segment.now text.now.registry.now.ws_attr collector.new) }
     ensures counts { (images : Images) (of : texts.Text) (done : Items texts.Text) → Tells images text.now.registry.now text.now.segment.now text.now.number of
         → AreCountsOf images text.now.registry.now grammar.now done collector.old.counted
@@ -72,7 +75,7 @@ fn add_text<L: Ledger>(
     numbers_stand_for_values();
     tokens_stand_in_texts();
     add_places(text, collector, steps)?;
-    add_lines(alloc, grammar, prepared, text, collector, rooms, steps)?;
+    add_lines(alloc, grammar, prepared, text, collector, scratch, steps)?;
     collector.finish_text()?;
     Ok(())
 }
@@ -95,7 +98,7 @@ fn add_number<L: Ledger>(
     number: u32,
     collector: &mut Collector<'_>,
     listed: &mut List<u32>,
-    rooms: &mut List<u32>,
+    scratch: &mut Scratch,
     steps: &mut Steps<L>,
 ) -> Result<(), CountError>
     requires under { AreTablesUnder registry.now segment.now }
@@ -103,6 +106,8 @@ fn add_number<L: Ledger>(
     requires fit { All (AllFit registry.now) grammar.now.relations }
     requires prepared { IsReadyGrammar segment.now grammar.now prepared.now }
     requires fresh { IsFresh segment.now registry.now.ws_attr collector.old }
+    requires rows { AreKnownIn segment.now scratch.old.known }
+    ensures rows { AreKnownIn segment.now scratch.new.known }
     ensures fresh { OnOk result (IsFresh segment.now registry.now.ws_attr collector.new) }
     ensures counts { (images : Images) (of : texts.Text) (done : Items texts.Text) → Tells images registry.now segment.now number of → AreCountsOf images registry.now grammar.now done collector.old.counted
         → OnOk result (AreCountsOf images registry.now grammar.now (done ++ of ∷ []) collector.new.counted) }
@@ -116,7 +121,7 @@ fn add_number<L: Ledger>(
         number,
         listed,
     };
-    add_text(alloc, grammar, prepared, &text, collector, rooms, steps)
+    add_text(alloc, grammar, prepared, &text, collector, scratch, steps)
 }
 
 /// Counts the texts of a segment that have these numbers, each by itself.
@@ -129,7 +134,7 @@ pub(crate) fn add_texts<L: Ledger>(
     numbers: &[u32],
     collector: &mut Collector<'_>,
     listed: &mut List<u32>,
-    rooms: &mut List<u32>,
+    scratch: &mut Scratch,
     steps: &mut Steps<L>,
 ) -> Result<(), CountError>
     requires under { AreTablesUnder registry.now segment.now }
@@ -137,6 +142,8 @@ pub(crate) fn add_texts<L: Ledger>(
     requires fit { All (AllFit registry.now) grammar.now.relations }
     requires prepared { IsReadyGrammar segment.now grammar.now prepared.now }
     requires fresh { IsFresh segment.now registry.now.ws_attr collector.old }
+    requires rows { AreKnownIn segment.now scratch.old.known }
+    ensures rows { AreKnownIn segment.now scratch.new.known }
     ensures counts { (images : Images) (of : Items texts.Text) (done : Items texts.Text) → TellAll images registry.now segment.now numbers.now of → AreCountsOf images registry.now grammar.now done collector.old.counted
         → OnOk result (AreCountsOf images registry.now grammar.now (done ++ of) collector.new.counted) }
     ensures room { (images : Images) (of : Items texts.Text) → TellAll images registry.now segment.now numbers.now of → OnOk result (HasRoom images registry.now grammar.now of) }
@@ -145,7 +152,7 @@ pub(crate) fn add_texts<L: Ledger>(
     for k in 0..numbers.len() {
         let number = numbers[k];
         add_number(
-            alloc, registry, grammar, prepared, segment, number, collector, listed, rooms, steps,
+            alloc, registry, grammar, prepared, segment, number, collector, listed, scratch, steps,
         )?;
     }
     Ok(())

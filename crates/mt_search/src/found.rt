@@ -22,7 +22,7 @@ use mt_cql::Query;
 use mt_decode_laws::live_texts_are_numbered;
 use mt_eval::eval;
 use mt_pattern::PatternShop;
-use mt_prepare::Patterns;
+use mt_prepare::{KnownRows, Patterns};
 use mt_rows::{EvalError, Rows};
 use mt_segment::Segment;
 use std::alloc::Global;
@@ -93,6 +93,7 @@ impl Found {
             segment,
             live,
             &mut self.rooms,
+            &mut KnownRows::new(alloc, 0),
             steps,
         )?;
         let texts = number_behind(self.texts, live.len())?;

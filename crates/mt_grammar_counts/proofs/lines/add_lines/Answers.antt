@@ -15,6 +15,7 @@ pub loop-i-init : goal.loop-i-init
 loop-i-init g c = record {
   only = gives_none c.args.collector.now;
   given = λ images of tells before. before;
+  rows = c.requires.rows;
   fit = λ images of tells. all_none images c.args.text.now.registry.now of;
 }
 
@@ -69,6 +70,7 @@ loop-i-preserved g c =
       given = λ images of tells before.
           subst (λ (ls : List Line). AreOfLines images text.registry.now of ls c.add_relation.new.collector.given) (sym (parts_more lines_of all i r l at))
           (c.in_ok-add_relation.ensures.given images of _ tells (c.loop-i.invariant.given images of tells before));
+      rows = c.add_relation.ensures.rows;
       fit = λ images of tells. all_more images text.registry.now of all i r l at (c.loop-i.invariant.fit images of tells) (c.in_ok-add_relation.ensures.room images of tells);
     }
 

@@ -3,6 +3,7 @@ use Rattle.std.proofs.Common.{[], take}
 use Rattle.std.specs.List.{flat_map}
 use Rattle.mt_text_spec.specs.Texts.{Text}
 use Rattle.mt_match_spec.specs.Values.{Images}
+use Rattle.mt_prepare.specs.KnownRows.{AreKnownIn}
 use Rattle.mt_instances.specs.Laws.{AreOfLines}
 use Rattle.mt_grammar_counts.specs.Collecting.{OnlyGives, lines_of}
 use Rattle.mt_grammar_counts.specs.Told.{Tells}
@@ -14,5 +15,6 @@ invariant-loop-i g l = record {
   only : OnlyGives l.initial.collector l.collector;
   given : (images : Images) (of : Text) → Tells images l.text.registry.now l.text.segment.now l.text.number of → AreOfLines images l.text.registry.now of [] l.initial.collector.given →
       AreOfLines images l.text.registry.now of (flat_map lines_of (take l.i l.grammar.relations)) l.collector.given;
+  rows : AreKnownIn l.text.segment.now l.scratch.known;
   fit : (images : Images) (of : Text) → Tells images l.text.registry.now l.text.segment.now l.text.number of → AllOf images l.text.registry.now of (take l.i l.grammar.relations);
 }

@@ -17,6 +17,7 @@ pub loop-i-init : goal.loop-i-init
 loop-i-init g c = record {
   only = gives_none c.args.collector.now;
   given = λ images of lines tells before. subst (λ (ls : List Line). AreOfLines images c.args.text.now.registry.now of ls c.args.collector.now.given) (sym (append-nil lines)) before;
+  rows = c.requires.rows;
   fit = λ images of tells. fit_none images c.args.text.now.registry.now of;
 }
 
@@ -71,6 +72,7 @@ loop-i-preserved g c =
       given = λ images of lines tells before.
           subst (λ (ls : List Line). AreOfLines images text.registry.now of ls c.add_query.new.collector.given) (lines_more c.args.relation.now lines i q l at)
           (c.in_ok-add_query.ensures.given images of _ tells (c.loop-i.invariant.given images of lines tells before));
+      rows = c.add_query.ensures.rows;
       fit = λ images of tells. fit_more images text.registry.now of all i q l at (c.loop-i.invariant.fit images of tells) (c.in_ok-add_query.ensures.room images of tells);
     }
 

@@ -2,6 +2,7 @@
 use Rattle.std.proofs.Common.{List, ◌++◌, map, take}
 use Rattle.mt_text_spec.specs.Texts.{Text}
 use Rattle.mt_match_spec.specs.Values.{Images}
+use Rattle.mt_prepare.specs.KnownRows.{AreKnownIn}
 use Rattle.mt_instances.specs.Laws.{AreOfLines, Line}
 use Rattle.mt_grammar_counts.specs.Collecting.{OnlyGives, line_of}
 use Rattle.mt_grammar_counts.specs.Told.{Tells}
@@ -13,5 +14,6 @@ invariant-loop-i g l = record {
   only : OnlyGives l.initial.collector l.collector;
   given : (images : Images) (of : Text) (lines : List Line) → Tells images l.text.registry.now l.text.segment.now l.text.number of → AreOfLines images l.text.registry.now of lines l.initial.collector.given →
       AreOfLines images l.text.registry.now of (lines ++ map (line_of l.relation) (take l.i l.relation.queries)) l.collector.given;
+  rows : AreKnownIn l.text.segment.now l.scratch.known;
   fit : (images : Images) (of : Text) → Tells images l.text.registry.now l.text.segment.now l.text.number of → AllFitIn images l.text.registry.now of (take l.i l.relation.queries);
 }

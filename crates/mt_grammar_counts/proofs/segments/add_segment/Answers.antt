@@ -31,3 +31,6 @@ pub returns-clause-counts : goal.returns-clause-counts
 returns-clause-counts g c = λ images of done tell old.
     c.add_texts-counted.ensures.counts images of done tell
     (subst (λ (counted : Counted). AreCountsOf images c.args.registry.now c.args.grammar.now done counted) (sym (ap (λ (o : Collected). o.counted) c.turn_to.ensures)) old)
+
+pub add_texts-counted-requires-clause-rows : goal.add_texts-counted-requires-clause-rows
+add_texts-counted-requires-clause-rows g c = c.new-2.ensures.known c.args.segment.now

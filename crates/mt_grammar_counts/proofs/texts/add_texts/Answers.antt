@@ -14,6 +14,7 @@ use Rattle.mt_grammar_counts.proofs.texts.add_texts.Goals as goal
 pub loop-k-init : goal.loop-k-init
 loop-k-init g c = record {
   fresh = c.requires.fresh;
+  rows = c.requires.rows;
   counts = λ images of done tell old. subst (λ (ts : List Text). AreCountsOf images c.args.registry.now c.args.grammar.now ts c.args.collector.now.counted) (sym (append-nil done)) old;
   room = λ images of tell. room_none images c.args.registry.now c.args.grammar.now;
 }
@@ -37,6 +38,7 @@ loop-k-preserved g c =
     let T = c.args.segment.now in
     record {
       fresh = c.in_ok-add_number.ensures.fresh;
+      rows = c.add_number.ensures.rows;
       counts = λ images of done tell old.
           let one = one_of images R T c.args.numbers.now of c.loop-k.k _ tell (omega (arith, c.loop-k-test.true)) refl in
           subst (λ (ts : List Text). AreCountsOf images R c.args.grammar.now ts c.add_number.new.collector.counted) (texts_more done of c.loop-k.k one.text one.within one.at)

@@ -58,3 +58,6 @@ returns-in_err-add_placed-clause-takes g c = λ plain.
 pub returns-clause-takes : goal.returns-clause-takes
 returns-clause-takes g c = λ plain.
     taken c.args.segment.now c.args.query.now c.args.steps.now c.prepare.new.steps c.eval.new.steps c.prepare.ensures.rises c.eval.ensures.rises (c.prepare.ensures.finds plain) (c.eval.ensures.few plain)
+
+pub eval-requires-clause-known : goal.eval-requires-clause-known
+eval-requires-clause-known g c = c.new.ensures.known c.args.segment.now
