@@ -13,6 +13,7 @@ use Rattle.mt_eval_spec.specs.RowsIn.{IsRowIn, PassesAllIn, RowsIn}
 use Rattle.mt_rows.specs.Rows.{IsSpanIn}
 use Rattle.mt_rows.specs.Laws.{to_member, passes_alike, spans_let, still_lists}
 use Rattle.mt_rows.proofs.SpansOf.{spans_listed}
+use Rattle.mt_eval.specs.Spans.{AreSpansOfRows}
 
 -- what follows from what is so where a result is Ok
 pub on_ok : {A E : Type 0} (result : Result A E) (P Q : Type 0) → (P → Q) → OnOk result P → OnOk result Q
@@ -55,3 +56,10 @@ all_pass tables texts kind head filters others found own rows some left are own_
       only = λ row c. let a = left_are.only row c in let b = some_are.only row a.0 in (b.0, (to row.span b.1, a.1));
       each = λ row h. left_are.each row (some_are.each row (h.0, from row.span h.1.0), h.1.1);
     }
+
+-- the same where the spans of the operand are lent, on which no filter stands
+pub lent_pass : (tables : Tables) (texts : List ℕ) (kind : FilterKind) (head : Expr) (others : Filters) (spans : List Span) (rows some left : List Row) → AreSpansOfRows tables texts head spans →
+    ListsAll row_cmp (λ row. Contains rows row × Passes kind (Contains spans) row.span) some → ListsAll row_cmp (λ row. Contains some row × PassesAllIn tables texts others row.span) left →
+    ListsAll row_cmp (λ row. Contains rows row × PassesAllIn tables texts (More kind head NoMore others) row.span) left
+lent_pass tables texts kind head others spans rows some left lent some_are left_are =
+    all_pass tables texts kind head NoMore others lent.rows lent.rows rows some left lent.are (no_filter tables texts lent.rows lent.are.ascending) (pass_alike kind lent.rows spans rows some lent.spans_are some_are) left_are

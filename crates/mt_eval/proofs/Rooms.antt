@@ -2,12 +2,13 @@
 use Rattle.std.proofs.Common.{◌≡◌, ℕ, zero, suc, ◌+◌, ◌-◌, ◌<◌, ◌≤◌, ◌⊎◌, inl, inr, List, [], ◌∷◌, ◌++◌, length, get_or, take, drop, set, sym, ◌∙◌, ap, subst, arith}
 use Rattle.std.proofs.lemmas.Bool.{cases_lt}
 use Rattle.std.proofs.lemmas.List.{length-append, length-set, get_or_append_left, get_or-append-add, get_or-set_same, get_or-set_other, set_split}
-use Rattle.mt_text_spec.specs.Texts.{Row}
+use Rattle.mt_text_spec.specs.Texts.{Row, Span}
 use Rattle.mt_text_spec.specs.Queries.{Expr}
 use Rattle.mt_segment_spec.specs.Tables.{Tables}
 use Rattle.mt_eval_spec.specs.RowsIn.{EachLeaves, LeavesRoom, PassesRoom, RowsIn, SomePasses, expr_at}
 use Rattle.mt_eval.specs.Rooms.{LowersOne}
 use Rattle.mt_eval.specs.Runs.{StandAt}
+use Rattle.mt_eval.specs.Spans.{AreSpansOfRows}
 
 -- ---- expressions of two lists
 
@@ -62,6 +63,10 @@ module _ (tables : Tables) (texts : List ℕ) where
       by zero l = let same : first + 0 ≡ first = omega arith in
           record { rows = rows; are = are; within = ap (λ (n : ℕ). get_or rooms n 0) same ∙ lower.lower ∙ ap (λ (n : ℕ). length rows + get_or left n 0) (sym same) }
       by (suc i) l = absurd (omega (arith, l))
+
+  -- the same where its spans are lent
+  pub lent_leaves : (expr : Expr) (first : ℕ) (spans : List Span) (rooms left : List ℕ) → AreSpansOfRows tables texts expr spans → LowersOne first (length spans) rooms left → EachLeaves tables texts (expr ∷ []) first rooms left
+  lent_leaves expr first spans rooms left lent lower = one_leaves expr first lent.rows rooms left lent.are (subst (λ (n : ℕ). LowersOne first n rooms left) (sym lent.count) lower)
 
   pub one_passes : (expr : Expr) (first : ℕ) (rooms : List ℕ) → PassesRoom tables texts expr (get_or rooms first 0) → SomePasses tables texts (expr ∷ []) first rooms
   one_passes expr first rooms p = record { number = 0; within = omega arith; passes = subst (λ (n : ℕ). PassesRoom tables texts expr (get_or rooms n 0)) (let same : first ≡ first + 0 = omega arith in same) p }

@@ -1,14 +1,14 @@
 -- The rows of a tag alone, one span after another.
-use Rattle.std.proofs.Common.{◌≡◌, ℕ, ◌+◌, ◌<◌, ◌≤◌, ◌⊎◌, true, Result, Ok, Err, List, [], ◌∷◌, ◌++◌, length, take, drop, get_or, slice_get, Some, inl, inr, refl, sym, ap, ◌∙◌, subst, arith}
+use Rattle.std.proofs.Common.{◌≡◌, ℕ, ◌+◌, ◌<◌, ◌≤◌, ◌⊎◌, true, Result, Ok, Err, List, [], ◌∷◌, ◌++◌, length, map, take, drop, get_or, slice_get, Some, inl, inr, refl, sym, ap, ◌∙◌, subst, arith}
 use Rattle.std.specs.Ordering.{nat_cmp, ordering_then}
 use Rattle.std.specs.Cmp.Lexicographic.{slice_cmp}
 use Rattle.std.specs.declared.cmp.Ordering.TheVariants.{Less}
-use Rattle.std.specs.List.{AllPairs, AllZip, Contains}
+use Rattle.std.specs.List.{All, AllByRecursion, AllPairs, AllZip, Contains}
 use Rattle.std.specs.List.Sorted.{IsBinarySearchResult, IsStrictlySortedBy}
 use Rattle.std.specs.Prelude.{MatchResult, is_ok}
 use Rattle.std.proofs.lemmas.Bool.{cases_lt}
 use Rattle.std.proofs.lemmas.List.Sorted.{searched}
-use Rattle.std.proofs.lemmas.List.{get_or_default, length-append, length-take-le, get_or-take, take_all, take_more, take-append-drop}
+use Rattle.std.proofs.lemmas.List.{get_or_default, length-append, length-map, length-take-le, get_or-take, take_all, take_more, take-append-drop}
 use Rattle.std.proofs.lemmas.List.Elements.{All-contains, Contains-append_left, Contains-append_right, Contains-push_cases}
 use Rattle.std.proofs.lemmas.Map.Keys.{Less-from_sorted}
 use Rattle.std.proofs.lemmas.Option.{get_or_from_slice_get, slice_get_within}
@@ -23,14 +23,17 @@ use Rattle.mt_match_spec.specs.Matches.{Matches}
 use Rattle.mt_match_spec.specs.Rows.{ListsAll}
 use Rattle.mt_segment_spec.specs.Tables.{Tables, AreTables, AreTablesUnder}
 use Rattle.mt_segment_laws.specs.Laws.{InstancesLieInTexts}
-use Rattle.mt_rows.specs.Laws.{from_member}
+use Rattle.mt_rows.specs.Rows.{IsSpanIn}
+use Rattle.mt_rows.specs.Laws.{Member, from_member, to_member}
+use Rattle.mt_rows.proofs.SpansOf.{span_list}
 use Rattle.mt_prepare.specs.Prepared.{TagSpans}
 use Rattle.mt_eval_spec.specs.Told.{told}
 use Rattle.mt_eval_spec.specs.RowsIn.{IsRowIn, PassesRoom, RowsIn}
 use Rattle.mt_eval_laws.specs.Laws.{HaveRowsIn, NoMoreThanAll}
 use Rattle.mt_eval.specs.Runs.{AreTexts}
-use Rattle.mt_eval.specs.Spans.{AreSpansOfTag, HasRow, IsTag}
+use Rattle.mt_eval.specs.Spans.{AreSpansOfRows, AreSpansOfTag, HasRow, IsTag}
 use Rattle.mt_eval.proofs.Behind.{one_behind}
+use Rattle.mt_eval.proofs.Distinct.{listed}
 use Rattle.mt_eval.proofs.Instances.{ends_inside}
 use Rattle.mt_eval.proofs.Rowed.{nothing_ascends}
 use Rattle.mt_eval.proofs.Walked.{none_in}
@@ -153,6 +156,46 @@ module _ (texts : List ℕ) (spans : List Span) (k : ℕ) (span : Span) (at : sl
     ];
   }
 
+-- ---- a row of each span
+
+all_less : (x : Span) (spans : List Span) → AllByRecursion (λ y. span_cmp x y ≡ Less) spans → AllByRecursion (λ row. row_cmp (bare x) row ≡ Less) (map bare spans)
+all_less x [] a = tt
+all_less x (y ∷ ys) a = (row_less (bare x) (bare y) a.0, all_less x ys a.1)
+
+bare_ascend : (spans : List Span) → IsStrictlySortedBy span_cmp spans → IsStrictlySortedBy row_cmp (map bare spans)
+unfolding IsStrictlySortedBy
+bare_ascend [] s = tt
+bare_ascend (x ∷ xs) s = (all_less x xs s.0, bare_ascend xs s.1)
+
+of_bare : (spans : List Span) (row : Row) → Member row (map bare spans) → Member row.span spans × (row.labels ≡ no_labels)
+of_bare [] row m = absurd m
+of_bare (x ∷ xs) row (inl e) = (inl (ap (λ (r : Row). r.span) e), ap (λ (r : Row). r.labels) e)
+of_bare (x ∷ xs) row (inr m) = let h = of_bare xs row m in (inr h.0, h.1)
+
+to_bare : (spans : List Span) (row : Row) → Member row.span spans → row.labels ≡ no_labels → Member row (map bare spans)
+to_bare [] row m e = absurd m
+to_bare (x ∷ xs) row (inl same) e = inl (is_bare row e ∙ ap bare same)
+to_bare (x ∷ xs) row (inr m) e = inr (to_bare xs row m e)
+
+bare_rows : (texts : List ℕ) (spans : List Span) → IsStrictlySortedBy span_cmp spans → All (HasRow texts) spans → ListsAll row_cmp (IsRowOf texts spans) (map bare spans)
+bare_rows texts spans s have = record {
+  ascending = bare_ascend spans s;
+  only = λ row c.
+      let h = of_bare spans row (to_member (map bare spans) row c) in
+      let there = from_member spans row.span h.0 in
+      record { there = there; has = All-contains (HasRow texts) spans row.span have there; labels_are = h.1 };
+  each = λ row r. from_member (map bare spans) row (to_bare spans row (to_member spans row.span r.there) r.labels_are);
+}
+
+spans_back : (spans : List Span) → span_list (map bare spans) ≡ spans
+spans_back [] = refl
+spans_back (x ∷ xs) = ap (λ (ss : List Span). x ∷ ss) (spans_back xs)
+
+bare_spans : (spans : List Span) → IsStrictlySortedBy span_cmp spans → ListsAll span_cmp (IsSpanIn (map bare spans)) spans
+bare_spans spans s =
+    subst (λ (ss : List Span). ListsAll span_cmp (IsSpanIn (map bare spans)) ss) (spans_back spans)
+    (listed (map bare spans) (subst (IsStrictlySortedBy span_cmp) (sym (spans_back spans)) s))
+
 -- ---- rows of the expression
 
 of_front : (spans : List Span) (n : ℕ) (span : Span) → Contains (take n spans) span → Contains spans span
@@ -178,10 +221,20 @@ module _ (law : InstancesLieInTexts) (tables : Tables) (known : AreTables tables
         labels_are = whole.labels_are;
       }
 
+  whole_rows : (rows : List Row) → ListsAll row_cmp (IsRowOf texts spans) rows → RowsIn tables texts expr rows
+  whole_rows rows whole = record { ascending = whole.ascending; only = λ row c. told_row row (whole.only row c); each = λ row r. whole.each row (back row r) }
+
   pub all_rows : (k : ℕ) (rows : List Row) → length spans ≤ k → ListsAll row_cmp (IsRowOf texts (take k spans)) rows → RowsIn tables texts expr rows
-  all_rows k rows end a =
-      let whole : ListsAll row_cmp (IsRowOf texts spans) rows = subst (λ (ss : List Span). ListsAll row_cmp (IsRowOf texts ss) rows) (take_all k spans end) a in
-      record { ascending = whole.ascending; only = λ row c. told_row row (whole.only row c); each = λ row r. whole.each row (back row r) }
+  all_rows k rows end a = whole_rows rows (subst (λ (ss : List Span). ListsAll row_cmp (IsRowOf texts ss) rows) (take_all k spans end) a)
+
+  -- each span has a row
+  pub all_lent : All (HasRow texts) spans → AreSpansOfRows tables texts expr spans
+  all_lent have = record {
+    rows = map bare spans;
+    are = whole_rows (map bare spans) (bare_rows texts spans is.are.ascending have);
+    spans_are = bare_spans spans is.are.ascending;
+    count = length-map spans bare;
+  }
 
   -- one row more than there is room for
   pub too_many : HaveRowsIn → NoMoreThanAll → (registry : Registry) → AreTablesUnder registry tables → ValidExpr registry expr → (k : ℕ) (span : Span) (room : ℕ) (old : List Row) → slice_get spans k ≡ Some span → HasRow texts span →

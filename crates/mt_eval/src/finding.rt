@@ -25,6 +25,7 @@ use super::gap::{Gap, around, gap_of};
 use super::gapped::rows_by_gap;
 use super::rarest::{looked_by, positions};
 use super::scan::scan_text;
+use super::scratch::Scratch;
 use super::sequence::{Sequence, add_rows, is_sequence};
 use super::spans::{is_tag, rows_by_spans};
 use super::walk::Walk;
@@ -92,6 +93,7 @@ fn rows_in_texts(
     automaton: &Automaton,
     sighted: &mut Sighted,
     room: u32,
+    mut out: Rows,
 ) -> Result<Rows, EvalError>
     requires query { IsFor asked.now.segment.now asked.now.query.now }
     requires texts { AreTexts asked.now.segment.now asked.now.texts.now }
@@ -99,6 +101,7 @@ fn rows_in_texts(
     requires ready { IsReady asked.now.segment.now (shape expr.now) ready.now }
     requires automaton { IsOf (shape expr.now) automaton.now }
     requires sighted { IsSighted asked.now.segment.now (shape expr.now) sighted.old }
+    requires none { out ≡ [] }
     ensures rows { IfOk result (λ rows. RowsIn asked.now.segment.now asked.now.texts.now (shape expr.now) rows) }
     ensures room { IfOk result (λ rows. length rows ≤ room) }
     ensures too_many { IsErrOf result EvalError.TooManyRows → PassesRoom asked.now.segment.now asked.now.texts.now (shape expr.now) room }
@@ -106,7 +109,6 @@ fn rows_in_texts(
     have_rows_in();
     no_more_than_all();
     let mut work = Work::new(alloc);
-    let mut out = Rows::new(alloc);
     for text in asked.texts {
         let left = room - out.len() as u32;
         add_text(
@@ -133,12 +135,14 @@ fn rows_by_automaton<L: Ledger>(
     room: u32,
     known: &mut KnownRows,
     steps: &mut Steps<L>,
+    out: Rows,
 ) -> Result<Rows, EvalError>
     requires query { IsFor asked.now.segment.now asked.now.query.now }
     requires texts { AreTexts asked.now.segment.now asked.now.texts.now }
     requires valid { (number : _) × (number < length (heads asked.now.query.now)) × (expr_at (heads asked.now.query.now) number ≡ shape expr.now) }
     requires ready { IsReady asked.now.segment.now (shape expr.now) ready.now }
     requires known { AreKnownIn asked.now.segment.now known.old }
+    requires none { out ≡ [] }
     ensures known { AreKnownIn asked.now.segment.now known.new }
     ensures rows { IfOk result (λ rows. RowsIn asked.now.segment.now asked.now.texts.now (shape expr.now) rows) }
     ensures room { IfOk result (λ rows. length rows ≤ room) }
@@ -149,22 +153,32 @@ fn rows_by_automaton<L: Ledger>(
     let automaton = Automaton::compile(alloc, expr)?;
     let mut pool = Pool::new(alloc);
     let mut sighted = Sighted::new(alloc, &mut pool, known, expr, ready, asked.segment, steps)?;
-    rows_in_texts(alloc, asked, expr, ready, &automaton, &mut sighted, room)
+    rows_in_texts(
+        alloc,
+        asked,
+        expr,
+        ready,
+        &automaton,
+        &mut sighted,
+        room,
+        out,
+    )
 }
 
 /// The rows of a sequence in the texts. Each of their tokens is looked at.
 fn rows_by_scan<L: Ledger>(
-    alloc: Global,
     asked: &Asked<'_>,
     sequence: &Sequence<'_>,
     room: u32,
     steps: &mut Steps<L>,
+    mut out: Rows,
 ) -> Result<Rows, EvalError>
     requires query { IsFor asked.now.segment.now asked.now.query.now }
     requires texts { AreTexts asked.now.segment.now asked.now.texts.now }
     requires valid { (number : _) × (number < length (heads asked.now.query.now)) × (expr_at (heads asked.now.query.now) number ≡ shape sequence.now.expr.now) }
     requires tests { AreTestsOf asked.now.segment.now (shape sequence.now.expr.now) sequence.now.tests.now }
     requires by { sequence.now.by < length sequence.now.tests.now }
+    requires none { out ≡ [] }
     ensures rows { IfOk result (λ rows. RowsIn asked.now.segment.now asked.now.texts.now (shape sequence.now.expr.now) rows) }
     ensures room { IfOk result (λ rows. length rows ≤ room) }
     ensures too_many { IsErrOf result EvalError.TooManyRows → PassesRoom asked.now.segment.now asked.now.texts.now (shape sequence.now.expr.now) room }
@@ -172,7 +186,6 @@ fn rows_by_scan<L: Ledger>(
 {
     have_rows_in();
     no_more_than_all();
-    let mut out = Rows::new(alloc);
     for text in asked.texts {
         let left = room - out.len() as u32;
         scan_text(sequence, asked.segment, *text, left, steps, &mut out)?;
@@ -230,12 +243,14 @@ fn rows_by_places<L: Ledger>(
     room: u32,
     known: &mut KnownRows,
     steps: &mut Steps<L>,
+    out: Rows,
 ) -> Result<Rows, EvalError>
     requires query { IsFor asked.now.segment.now asked.now.query.now }
     requires texts { AreTexts asked.now.segment.now asked.now.texts.now }
     requires valid { (number : _) × (number < length (heads asked.now.query.now)) × (expr_at (heads asked.now.query.now) number ≡ shape expr.now) }
     requires ready { IsReady asked.now.segment.now (shape expr.now) ready.now }
     requires known { AreKnownIn asked.now.segment.now known.old }
+    requires none { out ≡ [] }
     ensures known { AreKnownIn asked.now.segment.now known.new }
     ensures rows { IfOk result (λ rows. RowsIn asked.now.segment.now asked.now.texts.now (shape expr.now) rows) }
     ensures room { IfOk result (λ rows. length rows ≤ room) }
@@ -243,16 +258,16 @@ fn rows_by_places<L: Ledger>(
     ensures rises { steps.old ≤ steps.new }
 {
     if is_tag(expr) {
-        return rows_by_spans(alloc, asked, expr, ready.tags.get(0).as_slice(), room);
+        return rows_by_spans(asked, expr, ready.tags.get(0).as_slice(), room, out);
     }
     let tests = ready.tests.as_slice();
     if is_scanned(asked.segment, expr, tests) {
         let sequence = Sequence { expr, tests, by: 0 };
-        return rows_by_scan(alloc, asked, &sequence, room, steps);
+        return rows_by_scan(asked, &sequence, room, steps, out);
     }
     match short_gap(asked.segment, expr, tests) {
-        None => rows_by_automaton(alloc, asked, expr, ready, room, known, steps),
-        Some(gap) => rows_by_gap(alloc, asked, &around(expr, tests, gap), room, steps),
+        None => rows_by_automaton(alloc, asked, expr, ready, room, known, steps, out),
+        Some(gap) => rows_by_gap(asked, &around(expr, tests, gap), room, steps, out),
     }
 }
 
@@ -298,11 +313,11 @@ fn walked<L: Ledger>(
 
 /// The rows of a sequence in the texts, by the positions of the value of one of its tests.
 fn rows_by_value<L: Ledger>(
-    alloc: Global,
     asked: &Asked<'_>,
     sequence: &Sequence<'_>,
     room: u32,
     steps: &mut Steps<L>,
+    out: Rows,
 ) -> Result<Rows, EvalError>
     requires query { IsFor asked.now.segment.now asked.now.query.now }
     requires texts { AreTexts asked.now.segment.now asked.now.texts.now }
@@ -310,6 +325,7 @@ fn rows_by_value<L: Ledger>(
     requires tests { AreTestsOf asked.now.segment.now (shape sequence.now.expr.now) sequence.now.tests.now }
     requires by { sequence.now.by < length sequence.now.tests.now }
     requires one { IsOne (test_at sequence.now.tests.now sequence.now.by) }
+    requires none { out ≡ [] }
     ensures rows { IfOk result (λ rows. RowsIn asked.now.segment.now asked.now.texts.now (shape sequence.now.expr.now) rows) }
     ensures room { IfOk result (λ rows. length rows ≤ room) }
     ensures too_many { IsErrOf result EvalError.TooManyRows → PassesRoom asked.now.segment.now asked.now.texts.now (shape sequence.now.expr.now) room }
@@ -320,7 +336,6 @@ fn rows_by_value<L: Ledger>(
     places_are_listed();
     tables_are_whole();
     let _valid = asked.segment.texts();
-    let out = Rows::new(alloc);
     match positions(asked.segment, &sequence.tests[sequence.by]) {
         None => Ok(out),
         Some(list) => {
@@ -337,7 +352,7 @@ pub(crate) fn rows_of<L: Ledger>(
     expr: &Expr,
     number: usize,
     room: u32,
-    known: &mut KnownRows,
+    scratch: &mut Scratch,
     steps: &mut Steps<L>,
 ) -> Result<RowList, EvalError>
     requires query { IsFor asked.now.segment.now asked.now.query.now }
@@ -345,8 +360,8 @@ pub(crate) fn rows_of<L: Ledger>(
     requires texts { AreTexts asked.now.segment.now asked.now.texts.now }
     requires number { number < length (heads asked.now.query.now) }
     requires expr { expr_at (heads asked.now.query.now) number ≡ shape expr.now }
-    requires known { AreKnownIn asked.now.segment.now known.old }
-    ensures known { AreKnownIn asked.now.segment.now known.new }
+    requires known { AreKnownIn asked.now.segment.now scratch.old.known }
+    ensures known { AreKnownIn asked.now.segment.now scratch.new.known }
     ensures rows { IfOk result (λ rows. RowsIn asked.now.segment.now asked.now.texts.now (expr_at (heads asked.now.query.now) number) rows) }
     ensures room { IfOk result (λ rows. length rows ≤ room) }
     ensures too_many { IsErrOf result EvalError.TooManyRows → PassesRoom asked.now.segment.now asked.now.texts.now (expr_at (heads asked.now.query.now) number) room }
@@ -357,9 +372,11 @@ pub(crate) fn rows_of<L: Ledger>(
     tables_are_whole();
     let _valid = asked.segment.texts();
     let ready = asked.prepared.exprs.get(number);
+    let out = scratch.rows(alloc);
+    let known = &mut scratch.known;
     match looked_by(asked.segment, expr, ready.tests.as_slice()) {
         None => {
-            let rows = rows_by_places(alloc, asked, expr, ready, room, known, steps)?;
+            let rows = rows_by_places(alloc, asked, expr, ready, room, known, steps, out)?;
             Ok(RowList::new(rows))
         }
         Some(by) => {
@@ -368,7 +385,7 @@ pub(crate) fn rows_of<L: Ledger>(
                 tests: ready.tests.as_slice(),
                 by,
             };
-            let rows = rows_by_value(alloc, asked, &sequence, room, steps)?;
+            let rows = rows_by_value(asked, &sequence, room, steps, out)?;
             Ok(RowList::new(rows))
         }
     }

@@ -1,6 +1,6 @@
 //! The rows of tests of tokens with one gap among them in short texts, which are looked for at each token.
 
-ghost use Rattle.std.specs.Prelude.{◌≡◌, ℕ, ◌+◌, ◌<◌, ◌≤◌, length, IfOk, OnOk, IsErrOf};
+ghost use Rattle.std.specs.Prelude.{◌≡◌, ℕ, ◌+◌, ◌<◌, ◌≤◌, [], length, IfOk, OnOk, IsErrOf};
 ghost use Rattle.mt_cql.specs.Shape.{shape};
 ghost use Rattle.mt_text_spec.specs.Texts as spec;
 ghost use Rattle.mt_segment_spec.specs.Tables.{first_place, token_count};
@@ -20,7 +20,6 @@ use mt_eval_laws::{have_rows_in, no_more_than_all};
 use mt_prepare::Resolved;
 use mt_rows::{EvalError, Rows};
 use mt_segment::Segment;
-use std::alloc::Global;
 use std::sync::ledger::Ledger;
 
 /// Adds the row that begins at a place of a text and has so many tokens in its gap, where there is one. The tests before the gap and that of the gap are met.
@@ -177,17 +176,18 @@ fn scan_gapped<L: Ledger>(
 
 /// The rows of tests of tokens with one gap among them in the texts. Each of their tokens is looked at.
 pub(crate) fn rows_by_gap<L: Ledger>(
-    alloc: Global,
     asked: &Asked<'_>,
     gapped: &Gapped<'_>,
     room: u32,
     steps: &mut Steps<L>,
+    mut out: Rows,
 ) -> Result<Rows, EvalError>
     requires query { IsFor asked.now.segment.now asked.now.query.now }
     requires texts { AreTexts asked.now.segment.now asked.now.texts.now }
     requires valid { (number : _) × (number < length (heads asked.now.query.now)) × (expr_at (heads asked.now.query.now) number ≡ shape gapped.now.expr.now) }
     requires tests { AreTestsAround asked.now.segment.now (shape gapped.now.expr.now) gapped.now.before.now gapped.now.gap.now gapped.now.after.now gapped.now.least gapped.now.most }
     requires few { gapped.now.most < 4294967295 }
+    requires none { out ≡ [] }
     ensures rows { IfOk result (λ rows. RowsIn asked.now.segment.now asked.now.texts.now (shape gapped.now.expr.now) rows) }
     ensures room { IfOk result (λ rows. length rows ≤ room) }
     ensures too_many { IsErrOf result EvalError.TooManyRows → PassesRoom asked.now.segment.now asked.now.texts.now (shape gapped.now.expr.now) room }
@@ -195,7 +195,6 @@ pub(crate) fn rows_by_gap<L: Ledger>(
 {
     have_rows_in();
     no_more_than_all();
-    let mut out = Rows::new(alloc);
     for text in asked.texts {
         let left = room - out.len() as u32;
         scan_gapped(gapped, asked.segment, *text, left, steps, &mut out)?;

@@ -15,10 +15,10 @@ ghost use Rattle.mt_eval.specs.Runs.{AreTexts};
 use super::conds::mark_met;
 use super::finding::Asked;
 use super::run::{let_pass, take_rows};
+use super::scratch::Scratch;
 use mt_base::{List, NoMemory, Steps};
 use mt_cql::Cond;
 use mt_eval_laws::labels_are_inside;
-use mt_prepare::KnownRows;
 use mt_rows::{EvalError, RowList};
 use mt_segment::Segment;
 use std::alloc::Global;
@@ -52,15 +52,15 @@ pub(crate) fn kept_rows<L: Ledger>(
     alloc: Global,
     asked: &Asked<'_>,
     rooms: &mut List<u32>,
-    known: &mut KnownRows,
+    scratch: &mut Scratch,
     steps: &mut Steps<L>,
 ) -> Result<RowList, EvalError>
     requires query { IsFor asked.now.segment.now asked.now.query.now }
     requires prepared { IsPrepared asked.now.segment.now asked.now.query.now asked.now.prepared.now }
     requires texts { AreTexts asked.now.segment.now asked.now.texts.now }
     requires rooms { length rooms.old ≡ length (heads asked.now.query.now) }
-    requires known { AreKnownIn asked.now.segment.now known.old }
-    ensures known { AreKnownIn asked.now.segment.now known.new }
+    requires known { AreKnownIn asked.now.segment.now scratch.old.known }
+    ensures known { AreKnownIn asked.now.segment.now scratch.new.known }
     ensures rises { steps.old ≤ steps.new }
     ensures steps { IsPlain asked.now.query.now → AreFew asked.now.segment.now asked.now.query.now.head (steps.new - steps.old) }
     ensures kept { IfOk result (λ rows. KeptIn asked.now.segment.now asked.now.texts.now asked.now.query.now rows) }
@@ -68,8 +68,7 @@ pub(crate) fn kept_rows<L: Ledger>(
     ensures too_many { IsErrOf result EvalError.TooManyRows → SomePasses asked.now.segment.now asked.now.texts.now (heads asked.now.query.now) 0 rooms.old }
 {
     labels_are_inside();
-    let mut marks = Vec::new(alloc);
-    let mut rows = take_rows(alloc, asked, asked.query.head(), 0, rooms, known, steps)?;
+    let mut rows = take_rows(alloc, asked, asked.query.head(), 0, rooms, scratch, steps)?;
     let_pass(
         alloc,
         asked,
@@ -77,11 +76,10 @@ pub(crate) fn kept_rows<L: Ledger>(
         1,
         &mut rows,
         rooms,
-        &mut marks,
-        known,
+        scratch,
         steps,
     )?;
     let conds = asked.query.conds().as_slice();
-    keep_met(&mut marks, asked.segment, &mut rows, conds, steps)?;
+    keep_met(&mut scratch.marks, asked.segment, &mut rows, conds, steps)?;
     Ok(rows)
 }

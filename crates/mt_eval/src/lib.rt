@@ -23,6 +23,7 @@ mod query_spans;
 mod rarest;
 mod run;
 mod scan;
+mod scratch;
 mod sequence;
 mod spans;
 mod walk;
@@ -31,16 +32,18 @@ use finding::Asked;
 use kept::kept_rows;
 use mt_base::{List, Steps};
 use mt_cql::Query;
-pub use mt_prepare::{KnownRows, PatternError, Patterns, Prepared, check, prepare};
+pub use mt_prepare::{PatternError, Patterns, Prepared, check, prepare};
 pub use mt_rows::{EvalError, RowList};
 use mt_segment::Segment;
 pub use query_spans::QuerySpans;
+pub use scratch::Scratch;
 use std::alloc::Global;
 use std::sync::ledger::Ledger;
 
 /// The rows that a query keeps in the texts with these numbers, ascending and numbered in the segment. There is a room for the head and then one for each operand, in
 /// the order of `prepare`: how many rows each may have, before filters and conditions. Each is lowered by the rows that it has; after an error the rooms are unknown.
 /// Rows of values that are known for the segment are not found again, and those that are found are kept for the next query, as far as there is room for them.
+/// The rows are put into memory that `scratch` took back, where there is some.
 /// A position that is read and a value that is looked at are a step each. A sequence of `==` tests alone takes at most as many steps as there are tests at each place of
 /// the rarest of its values.
 pub fn eval<L: Ledger>(
@@ -50,15 +53,15 @@ pub fn eval<L: Ledger>(
     segment: &Segment,
     texts: &List<u32>,
     rooms: &mut List<u32>,
-    known: &mut KnownRows,
+    scratch: &mut Scratch,
     steps: &mut Steps<L>,
 ) -> Result<RowList, EvalError>
     requires query { IsFor segment.now query.now }
     requires prepared { IsPrepared segment.now query.now prepared.now }
     requires texts { AreTexts segment.now texts.now }
     requires rooms { length rooms.old ≡ length (heads query.now) }
-    requires known { AreKnownIn segment.now known.old }
-    ensures known { AreKnownIn segment.now known.new }
+    requires known { AreKnownIn segment.now scratch.old.known }
+    ensures known { AreKnownIn segment.now scratch.new.known }
     ensures rises { steps.old ≤ steps.new }
     ensures few { IsPlain query.now → AreFew segment.now query.now.head (steps.new - steps.old) }
     ensures kept { IfOk result (λ rows. KeptIn segment.now texts.now query.now rows) }
@@ -71,5 +74,5 @@ pub fn eval<L: Ledger>(
         segment,
         texts: texts.as_slice(),
     };
-    kept_rows(alloc, &asked, rooms, known, steps)
+    kept_rows(alloc, &asked, rooms, scratch, steps)
 }

@@ -19,9 +19,10 @@ ghost use Rattle.mt_eval.specs.Rooms.{LowersOne};
 
 use super::finding::{Asked, rows_of};
 use super::query_spans::QuerySpans;
+use super::scratch::Scratch;
+use super::spans::lent;
 use mt_base::{List, NoMemory, Span, Steps};
 use mt_cql::{Expr, FilterKind, Filters};
-use mt_prepare::KnownRows;
 use mt_rows::{EvalError, RowList};
 use std::alloc::Global;
 use std::sync::ledger::Ledger;
@@ -33,7 +34,7 @@ pub(crate) fn take_rows<L: Ledger>(
     expr: &Expr,
     number: usize,
     rooms: &mut List<u32>,
-    known: &mut KnownRows,
+    scratch: &mut Scratch,
     steps: &mut Steps<L>,
 ) -> Result<RowList, EvalError>
     requires query { IsFor asked.now.segment.now asked.now.query.now }
@@ -42,8 +43,8 @@ pub(crate) fn take_rows<L: Ledger>(
     requires number { number < length (heads asked.now.query.now) }
     requires expr { expr_at (heads asked.now.query.now) number ≡ shape expr.now }
     requires room { number < length rooms.old }
-    requires known { AreKnownIn asked.now.segment.now known.old }
-    ensures known { AreKnownIn asked.now.segment.now known.new }
+    requires known { AreKnownIn asked.now.segment.now scratch.old.known }
+    ensures known { AreKnownIn asked.now.segment.now scratch.new.known }
     ensures rows { IfOk result (λ rows. RowsIn asked.now.segment.now asked.now.texts.now (expr_at (heads asked.now.query.now) number) rows) }
     ensures rooms { IfOk result (λ rows. LowersOne number (length rows) rooms.old rooms.new) }
     ensures few { number < 18446744073709551615 }
@@ -54,7 +55,7 @@ pub(crate) fn take_rows<L: Ledger>(
 {
     rooms.len();
     let room = *rooms.get(number);
-    let rows = rows_of(alloc, asked, expr, number, room, known, steps)?;
+    let rows = rows_of(alloc, asked, expr, number, room, scratch, steps)?;
     rooms.replace_range(number, number + 1, Some(room - rows.len() as u32));
     Ok(rows)
 }
@@ -94,6 +95,31 @@ fn pass_by(
     filter(rows, kind, operand.as_slice(), marks)
 }
 
+/// Keeps the rows that a filter lets pass, by the spans of its operand, of which each is that of one row. The operand has this number, and its room is lowered. Returns
+/// the next number.
+fn pass_lent(
+    rows: &mut RowList,
+    kind: FilterKind,
+    spans: &[Span],
+    number: usize,
+    rooms: &mut List<u32>,
+    marks: &mut Vec<bool>,
+) -> Result<usize, NoMemory>
+    requires spans { IsStrictlySortedBy span_cmp spans.now }
+    requires number { number < length rooms.old }
+    requires room { length spans.now ≤ slice_index_or rooms.old number 0 }
+    ensures next { IfOk result (λ next. next ≡ number + 1) }
+    ensures rows { OnOk result (ListsAll row_cmp (λ row. Contains rows.old row × Passes (kind_shape kind) (Contains spans.now) row.span) rows.new) }
+    ensures rooms { LowersOne number (length spans.now) rooms.old rooms.new }
+{
+    rooms.len();
+    let room = *rooms.get(number);
+    let left = room - spans.len() as u32;
+    rooms.replace_range(number, number + 1, Some(left));
+    filter(rows, kind, spans, marks)?;
+    Ok(number + 1)
+}
+
 /// Keeps the rows that all filters let pass. Their operands have the numbers from `first` on. Returns the number behind them.
 pub(crate) fn let_pass<L: Ledger>(
     alloc: Global,
@@ -102,8 +128,7 @@ pub(crate) fn let_pass<L: Ledger>(
     first: usize,
     rows: &mut RowList,
     rooms: &mut List<u32>,
-    marks: &mut Vec<bool>,
-    known: &mut KnownRows,
+    scratch: &mut Scratch,
     steps: &mut Steps<L>,
 ) -> Result<usize, EvalError>
     requires query { IsFor asked.now.segment.now asked.now.query.now }
@@ -111,8 +136,8 @@ pub(crate) fn let_pass<L: Ledger>(
     requires texts { AreTexts asked.now.segment.now asked.now.texts.now }
     requires stand { StandAt (heads asked.now.query.now) (operands (filters_shape filters.now)) first }
     requires rooms { length rooms.old ≡ length (heads asked.now.query.now) }
-    requires known { AreKnownIn asked.now.segment.now known.old }
-    ensures known { AreKnownIn asked.now.segment.now known.new }
+    requires known { AreKnownIn asked.now.segment.now scratch.old.known }
+    ensures known { AreKnownIn asked.now.segment.now scratch.new.known }
     ensures rises { steps.old ≤ steps.new }
     ensures steps { filters_shape filters.now ≡ NoMore → steps.new ≡ steps.old }
     ensures next { IfOk result (λ next. next ≡ first + length (operands (filters_shape filters.now))) }
@@ -126,7 +151,12 @@ pub(crate) fn let_pass<L: Ledger>(
             Ok(first)
         }
         Filters::More(filter_of, others) => {
-            let mut own = take_rows(alloc, asked, &filter_of.head, first, rooms, known, steps)?;
+            if let Some(spans) = lent(asked, filter_of, first, *rooms.get(first)) {
+                let marks = &mut scratch.marks;
+                let behind = pass_lent(rows, filter_of.kind, spans, first, rooms, marks)?;
+                return let_pass(alloc, asked, others, behind, rows, rooms, scratch, steps);
+            }
+            let mut own = take_rows(alloc, asked, &filter_of.head, first, rooms, scratch, steps)?;
             let next = let_pass(
                 alloc,
                 asked,
@@ -134,12 +164,11 @@ pub(crate) fn let_pass<L: Ledger>(
                 first + 1,
                 &mut own,
                 rooms,
-                marks,
-                known,
+                scratch,
                 steps,
             )?;
-            pass_by(alloc, rows, filter_of.kind, own, marks)?;
-            let_pass(alloc, asked, others, next, rows, rooms, marks, known, steps)
+            pass_by(alloc, rows, filter_of.kind, own, &mut scratch.marks)?;
+            let_pass(alloc, asked, others, next, rows, rooms, scratch, steps)
         }
     }
 }

@@ -20,9 +20,9 @@ use mt_base::{List, NoMemory, Steps};
 use mt_corpus_laws::{kept_are_joined, rows_are_joined};
 use mt_cql::Query;
 use mt_decode_laws::live_texts_are_numbered;
-use mt_eval::eval;
+use mt_eval::{Scratch, eval};
 use mt_pattern::PatternShop;
-use mt_prepare::{KnownRows, Patterns};
+use mt_prepare::Patterns;
 use mt_rows::{EvalError, Rows};
 use mt_segment::Segment;
 use std::alloc::Global;
@@ -93,7 +93,7 @@ impl Found {
             segment,
             live,
             &mut self.rooms,
-            &mut KnownRows::new(alloc, 0),
+            &mut Scratch::new(alloc, 0),
             steps,
         )?;
         let texts = number_behind(self.texts, live.len())?;

@@ -12,7 +12,7 @@ use super::corpus::read_texts;
 use super::table::{Case, Table};
 use mt_base::{List, NoMemory, Registry, Row, Steps, Value};
 use mt_cql::{Query, parse};
-use mt_eval::{EvalError, KnownRows, PatternError, RowList, eval, prepare};
+use mt_eval::{EvalError, PatternError, RowList, Scratch, eval, prepare};
 use mt_mapper::{Fold, Mapper};
 use mt_pattern::RegexShop;
 use mt_registry::{RegistryError, read_registry};
@@ -161,9 +161,16 @@ fn rows<L: Ledger>(
         Err(PatternError::NoMemory) => return Err(Fault::NoMemory),
         Err(_) => return Err(Fault::Patterns),
     };
-    let mut known = KnownRows::new(alloc, 0);
+    let mut scratch = Scratch::new(alloc, 0);
     match eval(
-        alloc, query, &prepared, segment, texts, rooms, &mut known, &mut steps,
+        alloc,
+        query,
+        &prepared,
+        segment,
+        texts,
+        rooms,
+        &mut scratch,
+        &mut steps,
     ) {
         Ok(rows) => Ok(rows),
         Err(EvalError::TooManyRows) => Err(Fault::TooManyRows),

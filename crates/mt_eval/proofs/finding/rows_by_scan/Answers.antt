@@ -10,8 +10,8 @@ use Rattle.mt_eval.proofs.finding.rows_by_scan.Goals as goal
 
 pub loop-text-init : goal.loop-text-init
 loop-text-init g c = record {
-  rows = rw c.new-out.ensures (none_yet c.args.asked.now.segment.now (shape c.args.sequence.now.expr.now) c.args.asked.now.texts.now);
-  within = rw c.new-out.ensures (omega arith);
+  rows = rw c.requires.none (none_yet c.args.asked.now.segment.now (shape c.args.sequence.now.expr.now) c.args.asked.now.texts.now);
+  within = rw c.requires.none (omega arith);
   rises = omega arith;
 }
 

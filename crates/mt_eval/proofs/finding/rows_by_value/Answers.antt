@@ -31,7 +31,7 @@ returns-in-None-clause-rows g c =
     let its = its_places c.places_are_listed.ensures T known (c.tables_are_whole.ensures T known) (test_at tests by) (c.requires.tests.attrs by resolved.Any c.requires.by) c.requires.one in
     let at : get_or tests by c.index-sequence-sequence.result ≡ test_at tests by = get_or_default tests by c.index-sequence-sequence.result resolved.Any c.requires.by in
     let none : positions_of T (test_at tests by) ≡ [] = ap (positions_of T) (sym at) ∙ c.in-None.ensures.none in
-    subst (λ (rows : List Row). RowsIn T c.args.asked.now.texts.now E rows) (sym c.new-out.ensures) (no_rows T c.args.asked.now.texts.now E tests by c.requires.texts c.requires.tests c.requires.by its none)
+    subst (λ (rows : List Row). RowsIn T c.args.asked.now.texts.now E rows) (sym c.requires.none) (no_rows T c.args.asked.now.texts.now E tests by c.requires.texts c.requires.tests c.requires.by its none)
 
 pub returns-in-Some-clause-ones : goal.returns-in-Some-clause-ones
 returns-in-Some-clause-ones g c = λ ones.

@@ -9,7 +9,7 @@ use Rattle.mt_eval.proofs.Found.{none_yet, next, within_room, too_many}
 use Rattle.mt_eval.proofs.finding.rows_in_texts.Goals as goal
 
 pub loop-text-init : goal.loop-text-init
-loop-text-init c = (rw c.new-out.ensures (none_yet c.args.asked.now.segment.now (shape c.args.expr.now) c.args.asked.now.texts.now), rw c.new-out.ensures (omega arith), c.requires.sighted)
+loop-text-init c = (rw c.requires.none (none_yet c.args.asked.now.segment.now (shape c.args.expr.now) c.args.asked.now.texts.now), rw c.requires.none (omega arith), c.requires.sighted)
 
 pub returns-in_err-add_text-clause-too_many : goal.returns-in_err-add_text-clause-too_many
 returns-in_err-add_text-clause-too_many c =

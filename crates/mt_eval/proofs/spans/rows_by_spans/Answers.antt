@@ -10,7 +10,7 @@ use Rattle.mt_eval.proofs.spans.rows_by_spans.Goals.{then-has_row+else-len-room+
 use Rattle.mt_eval.proofs.spans.rows_by_spans.Goals as goal
 
 pub loop-span-init : goal.loop-span-init
-loop-span-init c = record { rows = rw c.new-out.ensures (none_yet c.args.asked.now.texts.now c.args.spans.now); room = rw c.new-out.ensures (omega arith) }
+loop-span-init c = record { rows = rw c.requires.none (none_yet c.args.asked.now.texts.now c.args.spans.now); room = rw c.requires.none (omega arith) }
 
 pub returns-then-len-room-clause-too_many : goal.returns-then-len-room-clause-too_many
 returns-then-len-room-clause-too_many c = λ _.
