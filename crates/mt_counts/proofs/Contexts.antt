@@ -15,7 +15,7 @@ use Rattle.mt_counts.specs.declared.tables.Tables.{Tables}
 use Rattle.mt_counts.specs.declared.numbered.Entry.{Entry}
 use Rattle.mt_counts.proofs.Entries.{pair_exact, pair_passes}
 use Rattle.mt_counts.proofs.Lists.{same_text, total-some}
-use Rattle.mt_counts.proofs.Moves.{same_key}
+use Rattle.mt_counts.proofs.Growing.{same_key}
 use Rattle.mt_counts.proofs.Sums.{row_stands, row_is, stands}
 use Rattle.mt_counts.proofs.Keys.{name_counts, three_counts, three_same, count_there}
 use Rattle.mt_counts.proofs.Totals.{total-map}

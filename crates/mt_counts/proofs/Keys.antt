@@ -23,9 +23,6 @@ never : (b : Bool) → (b ≡ true → ⊥) → b ≡ false
 never true f = absurd (f refl)
 never false f = refl
 
-key_passes : (key other : ℕ × ℕ) → other ≡ key → is_key key other ≡ true
-key_passes key other e = ap (λ (k : ℕ × ℕ). is_key key k) e ∙ pair_passes key.0 key.1
-
 -- ---- counts of pairs of numbers
 
 pub count_there : (entries : List ((ℕ × ℕ) × ℕ)) (key : ℕ × ℕ) (count place : ℕ) → AreOnce entries → slice_get entries place ≡ Some (key, count) → count_at entries key ≡ count
@@ -142,9 +139,6 @@ module _ (names words : List (List ℕ)) (rows both : List ((ℕ × ℕ) × ℕ)
 
     pub no_row : ((row : ℕ) → row < length rows → named_word names words (row_at (keys_of rows) row) ≡ (name, x) → ⊥) → total (is_three name x y) (by_row names words (keys_of rows) both) ≡ 0
     no_row none = by_no_text (three_of names words (keys_of rows)) (is_three name x y) both (λ k place at h. none k.0 (below k place at).0 (three_on name x y k h).0)
-
-    pub no_second : ((number : ℕ) → slice_get words number ≡ Some y → ⊥) → total (is_three name x y) (by_row names words (keys_of rows) both) ≡ 0
-    no_second none = by_no_text (three_of names words (keys_of rows)) (is_three name x y) both (λ k place at h. none k.1 (text_there words k.1 y (below k place at).1 (three_on name x y k h).1))
 
     -- a second word that counts has a place in the row
     pub second_placed : (row : ℕ) → AreDistinct names → AreDistinct words → AreOnce rows → row < length rows → named_word names words (row_at (keys_of rows) row) ≡ (name, x) → (k : ℕ × ℕ) (place : ℕ) → IsAt both k place →

@@ -5,7 +5,7 @@ pub mod Chains
 pub mod Walks
 pub mod Totals
 pub mod Numbering
-pub mod Moves
+pub mod Growing
 pub mod Sums
 pub mod Lists
 pub mod Keys
@@ -14,4 +14,7 @@ pub mod Seconds
 pub mod Ascending
 pub mod Contexts
 pub mod Turning
-pub mod Noted
+pub mod Joined
+pub mod Placed
+pub mod Counting
+pub mod Filling

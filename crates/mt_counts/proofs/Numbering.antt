@@ -1,8 +1,8 @@
 -- Texts found by their bytes, and lists of texts that grow at their end.
-use Rattle.std.proofs.Common.{◌≡◌, ℕ, ◌+◌, ◌<◌, ◌≤◌, true, Some, None, List, [], ◌∷◌, ◌++◌, length, get_or, slice_get, position, refl, sym, ap, ◌∙◌, arith, true≢false, append-nil, append_assoc, length-append, ◌⊎◌, inl, inr}
-use Rattle.std.specs.List.{IsDistinct}
+use Rattle.std.proofs.Common.{◌≡◌, ℕ, ◌+◌, ◌<◌, ◌≤◌, Bool, true, false, not, cond, nat_lt, Some, None, String, Global, string_bytes, List, map, ap₂, [], ◌∷◌, ◌++◌, length, get_or, slice_get, position, refl, sym, ap, ◌∙◌, arith, true≢false, append-nil, append_assoc, length-append, ◌⊎◌, inl, inr}
+use Rattle.std.specs.List.{AllByRecursion, IsDistinct, prefix_len}
 use Rattle.std.proofs.lemmas.Bool.{cases_order, cases_lt}
-use Rattle.std.proofs.lemmas.List.{get_or_append_left, get_or_push}
+use Rattle.std.proofs.lemmas.List.{get_or_append_left, get_or_push, get_or-map, length-map}
 use Rattle.std.proofs.lemmas.List.Quantifiers.{position-Some}
 use Rattle.std.proofs.lemmas.List.Sums.{fails_before_first}
 use Rattle.std.proofs.lemmas.Map.Keys.{apart_from_distinct}
@@ -42,6 +42,40 @@ distinct_in values distinct value i j h g = by (cases_order i j)
     by (inr (inl l)) = absurd (apart i j h g l)
     by (inr (inr l)) = absurd (apart j i g h l)
 
+-- ---- the same of texts that are kept as strings
+
+prefix_map : {X Y : Type 0} (f : X → Y) (p : Y → Bool) (xs : List X) → prefix_len (λ x. p (f x)) xs ≡ prefix_len p (map f xs)
+prefix_map f p [] = refl
+prefix_map f p (x ∷ xs) = ap (λ (n : ℕ). cond (p (f x)) (1 + n) 0) (prefix_map f p xs)
+
+position_map : {X Y : Type 0} (f : X → Y) (p : Y → Bool) (xs : List X) → position (λ x. p (f x)) xs ≡ position p (map f xs)
+position_map f p xs = ap₂ (λ (n m : ℕ). cond (nat_lt n m) (Some n) None) (prefix_map f (λ y. not (p y)) xs) (sym (length-map xs f))
+
+pub found_as : (value : List ℕ) (strings : List (String Global)) (i : ℕ) → Some i ≡ position (λ s. pointwise nat_eq value (string_bytes s)) strings → slice_get (map string_bytes strings) i ≡ Some value
+found_as value strings i e = found_in value (map string_bytes strings) i (e ∙ position_map string_bytes (pointwise nat_eq value) strings)
+
+pub not_as : (value : List ℕ) (strings : List (String Global)) → None ≡ position (λ s. pointwise nat_eq value (string_bytes s)) strings → (i : ℕ) → slice_get (map string_bytes strings) i ≡ Some value → ⊥
+not_as value strings e = not_in value (map string_bytes strings) (e ∙ position_map string_bytes (pointwise nat_eq value) strings)
+
+apart_map : {X Y : Type 0} (f : X → Y) (e : Y → Bool) (xs : List X) → AllByRecursion (λ x. e (f x) ≡ false) xs → AllByRecursion (λ y. e y ≡ false) (map f xs)
+apart_map f e [] h = tt
+apart_map f e (x ∷ xs) h = (h.0, apart_map f e xs h.1)
+
+distinct_map : {X Y : Type 0} (f : X → Y) (e : Y → Y → Bool) (xs : List X) → IsDistinct (λ x y. e (f x) (f y)) xs → IsDistinct e (map f xs)
+unfolding IsDistinct
+distinct_map f e [] h = tt
+distinct_map f e (x ∷ xs) h = (apart_map f (e (f x)) xs h.0, distinct_map f e xs h.1)
+
+pub distinct_as : (strings : List (String Global)) → IsDistinct (λ x y. pointwise nat_eq (string_bytes x) (string_bytes y)) strings → AreDistinct (map string_bytes strings)
+distinct_as strings distinct = distinct_in (map string_bytes strings) (distinct_map string_bytes (pointwise nat_eq) strings distinct)
+
+pub stored_as : (value : String Global) (strings : List (String Global)) (i : ℕ) (k : String Global) → slice_get strings i ≡ Some k → pointwise nat_eq (string_bytes value) (string_bytes k) ≡ true →
+    slice_get (map string_bytes strings) i ≡ Some (string_bytes value)
+stored_as value strings i k at e =
+    let within = slice_get_within strings i k at in
+    slice_get-get_or (map string_bytes strings) i (string_bytes k) (omega (arith, within, length-map strings string_bytes)) ∙
+    ap Some (get_or-map string_bytes strings i k (string_bytes k) within ∙ ap string_bytes (get_or_from_slice_get strings i k k at) ∙ sym (exact (string_bytes value) (string_bytes k) e))
+
 -- ---- lists that grow
 
 pub begins_none : (values : List (List ℕ)) → Begins values values
@@ -62,9 +96,6 @@ pub record IsAdding (others first now : List (List ℕ)) (numbers : List ℕ) (k
   pub begins : Begins first now
   pub count : length numbers ≡ k
   pub each : (j : ℕ) (value : List ℕ) → j < k → slice_get others j ≡ Some value → slice_get now (get_or numbers j 0) ≡ Some value
-
-pub adding_none : (others first : List (List ℕ)) (numbers : List ℕ) → numbers ≡ [] → IsAdding others first first numbers 0
-adding_none others first numbers e = record { begins = begins_none first; count = ap length e; each = λ j value l. absurd (omega (arith, l)) }
 
 pub adding_more : (others first now next : List (List ℕ)) (numbers more : List ℕ) (k number : ℕ) (value : List ℕ) → IsAdding others first now numbers k → Begins now next → slice_get others k ≡ Some value →
     slice_get next number ≡ Some value → more ≡ numbers ++ number ∷ [] → IsAdding others first next more (k + 1)

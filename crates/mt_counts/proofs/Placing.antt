@@ -2,7 +2,7 @@
 use Rattle.std.proofs.Common.{◌≡◌, ℕ, suc, ◌+◌, Bool, true, false, cond, Option, Some, None, List, [], ◌∷◌, ◌++◌, length, slice_get, refl, ap, ◌∙◌, arith, if◌then◌else◌, not}
 use Rattle.std.specs.List.{position_or_len}
 use Rattle.std.specs.Map.{keys_of, lookup}
-use Rattle.indexmap.specs.IndexMap.{set_value_at, insert_entry}
+use Rattle.indexmap.specs.IndexMap.{insert_entry}
 use Rattle.mt_counts.specs.Tallies.{IsAt}
 
 module _ {K : Type 0} (eq : K → K → Bool) (key : K) where
@@ -36,23 +36,6 @@ module _ {K : Type 0} (eq : K → K → Bool) (key : K) where
       by false h rest =
           let more : 1 + position_or_len (eq key) (keys_of es) ≡ suc (length es) = omega (arith, rest h) in
           ap (λ (b : Bool). cond (not b) (1 + position_or_len (eq key) (keys_of es)) 0) h ∙ more
-
-  -- a key that has a count has it back
-  pub put_back : (es : List (K × ℕ)) (count : ℕ) → Some count ≡ lookup (eq key) es → set_value_at (insert_entry eq es key 0) (position_or_len (eq key) (keys_of es)) count ≡ es
-  put_back [] count some = absurd (let f : ⊥ = cc in f)
-  put_back (e ∷ es) count some = by (eq key e.0) refl (λ (h : eq key e.0 ≡ false). put_back es count (found_behind e es (Some count) some h))
-    where
-      put : Bool → List (K × ℕ)
-      put b = set_value_at (if b then (e.0, 0) ∷ es else e ∷ insert_entry eq es key 0) (cond (not b) (1 + position_or_len (eq key) (keys_of es)) 0) count
-
-      by : (b : Bool) → eq key e.0 ≡ b → (eq key e.0 ≡ false → set_value_at (insert_entry eq es key 0) (position_or_len (eq key) (keys_of es)) count ≡ es) → put (eq key e.0) ≡ e ∷ es
-      by true h rest =
-          let is : Some count ≡ Some e.1 = found_first e es (Some count) some h in
-          let n : count ≡ e.1 = cc in
-          ap put h ∙ ap (λ (n : ℕ). (e.0, n) ∷ es) n
-      by false h rest =
-          let more : 1 + position_or_len (eq key) (keys_of es) ≡ suc (position_or_len (eq key) (keys_of es)) = omega arith in
-          ap put h ∙ ap (λ (n : ℕ). set_value_at (e ∷ insert_entry eq es key 0) n count) more ∙ ap (λ (ys : List (K × ℕ)). e ∷ ys) (rest h)
 
   -- and stands at its place
   pub place_there : (es : List (K × ℕ)) (count : ℕ) → ((k : K) → eq key k ≡ true → k ≡ key) → Some count ≡ lookup (eq key) es → IsAt es key (position_or_len (eq key) (keys_of es))

@@ -1,32 +1,31 @@
 -- What tables count after they have grown, and after counts of others were added.
-use Rattle.std.proofs.Common.{◌≡◌, ℕ, ◌+◌, ◌<◌, ◌≤◌, Bool, Some, List, [], length, map, get_or, slice_get, sym, ap, ap₂, ◌∙◌, arith, length-append}
+use Rattle.std.proofs.Common.{◌≡◌, ℕ, ◌+◌, ◌<◌, ◌≤◌, Bool, Some, List, [], length, map, get_or, slice_get, sym, ap, ◌∙◌, arith, length-append}
 use Rattle.std.specs.Map.{keys_of}
 use Rattle.std.proofs.lemmas.List.{get_or_append_left}
 use Rattle.std.proofs.lemmas.Option.{get_or_from_slice_get, slice_get-get_or}
 use Rattle.mt_counts.specs.Totals.{total}
 use Rattle.mt_counts.specs.Names.{Begins, AreRenumbered}
-use Rattle.mt_counts.specs.Tallies.{IsRaised, IsAt, Grows, HasKeysBelow, AreMoved, AreAdded}
+use Rattle.mt_counts.specs.Tallies.{IsAt, Grows, HasKeysBelow}
 use Rattle.mt_counts.specs.Counted.{Counted, IsSum, HaveSame}
-use Rattle.mt_counts.specs.Tables.{text_at, row_at, three_of, named_word, counted, AreInside, AreGrown, AreAllMoved, AreAllAdded}
+use Rattle.mt_counts.specs.Tables.{text_at, row_at, three_of, named_word, counted, AreInside, AreGrown}
 use Rattle.mt_counts.specs.declared.tables.Tables.{Tables}
-use Rattle.mt_counts.specs.declared.tables.Moves.{Moves}
-use Rattle.mt_counts.proofs.Entries.{length-keys, get_or-keys, grows_none}
+use Rattle.mt_counts.proofs.Entries.{get_or-keys, grows_none}
 use Rattle.mt_counts.proofs.Numbering.{begins_none}
 use Rattle.mt_counts.proofs.Totals.{total-map, total-same, total-grown}
-use Rattle.mt_counts.proofs.Moves.{same_key, at_keys, grows_at, keys_raised}
+use Rattle.mt_counts.proofs.Growing.{at_keys, grows_at}
 
 -- ---- texts and rows by their numbers
 
-text_grown : (old new : List (List ℕ)) (n : ℕ) → Begins old new → n < length old → text_at new n ≡ text_at old n
+pub text_grown : (old new : List (List ℕ)) (n : ℕ) → Begins old new → n < length old → text_at new n ≡ text_at old n
 text_grown old new n h l = ap (λ (xs : List (List ℕ)). get_or xs n []) h.are ∙ get_or_append_left old h.more [] n l
 
-longer : (old new : List (List ℕ)) → Begins old new → length old ≤ length new
+pub longer : (old new : List (List ℕ)) → Begins old new → length old ≤ length new
 longer old new h = omega (arith, ap (λ (xs : List (List ℕ)). length xs) h.are, length-append old h.more)
 
 more_pairs : (old new : List ((ℕ × ℕ) × ℕ)) → Grows old new → length old ≤ length new
 more_pairs old new h = omega (arith, ap (λ (xs : List ((ℕ × ℕ) × ℕ)). length xs) h.are, length-append old h.more)
 
-text_moved : (old new : List (List ℕ)) (numbers : List ℕ) (n : ℕ) → AreRenumbered old new numbers → n < length old → text_at new (get_or numbers n 0) ≡ text_at old n
+pub text_moved : (old new : List (List ℕ)) (numbers : List ℕ) (n : ℕ) → AreRenumbered old new numbers → n < length old → text_at new (get_or numbers n 0) ≡ text_at old n
 text_moved old new numbers n h l = get_or_from_slice_get new (get_or numbers n 0) (text_at old n) [] (h.each n (text_at old n) (slice_get-get_or old n [] l))
 
 -- the row with a number is what stands there
@@ -75,65 +74,9 @@ module _ (old new : Tables) (inside : AreInside old) (grown : AreGrown old new) 
     alone = λ p. same_total (named_word old.names old.words) (named_word new.names new.words) p old.alone new.alone (length old.words) (length old.names) grown.alone inside.alone named_same;
   }
 
--- ---- the counts of others are added
-
-module _ (t old : Tables) (moves : Moves) (inside : AreInside t) (moved : AreAllMoved t old moves) where
-  three_moved : (key : ℕ × ℕ) → key.0 < length t.rows → key.1 < length t.words →
-      three_of old.names old.words (keys_of old.rows) (get_or moves.rows.items key.0 0, get_or moved.words key.1 0) ≡ three_of t.names t.words (keys_of t.rows) key
-  three_moved key l m =
-      let row = row_at (keys_of t.rows) key.0 in
-      let stands_there = row_stands t.rows key.0 l in
-      let below = inside.rows row key.0 stands_there in
-      let same = row_is old.rows (get_or moves.rows.items key.0 0) (get_or moved.words row.0 0, get_or moved.names row.1 0) (moved.rows.each row key.0 stands_there) in
-      let name = ap (λ (r : ℕ × ℕ). text_at old.names r.1) same ∙ text_moved t.names old.names moved.names row.1 moved.names_are below.1 in
-      let first = ap (λ (r : ℕ × ℕ). text_at old.words r.0) same ∙ text_moved t.words old.words moved.words row.0 moved.words_are below.0 in
-      let second = text_moved t.words old.words moved.words key.1 moved.words_are m in
-      λ i. (name i, first i, second i)
-
-  named_moved : (key : ℕ × ℕ) → key.0 < length t.words → key.1 < length t.names → named_word old.names old.words (get_or moved.words key.0 0, get_or moved.names key.1 0) ≡ named_word t.names t.words key
-  named_moved key l m = let name = text_moved t.names old.names moved.names key.1 moved.names_are m in let word = text_moved t.words old.words moved.words key.0 moved.words_are l in λ i. (name i, word i)
-
-  -- totals of pairs, under names that mean the same at both places
-  moved_total : {L : Type 0} (c d e : ℕ × ℕ → L) (p : L → Bool) (before entries behind : List ((ℕ × ℕ) × ℕ)) (groups members places : List ℕ) (g m : ℕ) → AreMoved entries before groups members places → AreAdded before entries places behind →
-      HasKeysBelow g m entries → ((key : ℕ × ℕ) → key.0 < g → key.1 < m → c (get_or groups key.0 0, get_or members key.1 0) ≡ d key) → ((key : ℕ × ℕ) → e key ≡ c key) →
-      total p (map (λ x. (e x.0, x.1)) behind) ≡ total p (map (λ x. (c x.0, x.1)) before) + total p (map (λ x. (d x.0, x.1)) entries)
-  moved_total c d e p before entries behind groups members places g m moves added below same still =
-      let agree : (key other : ℕ × ℕ) (k : ℕ) → IsAt entries key k → IsAt before other (get_or places k 0) → p (c other) ≡ p (d key) =
-      λ key other k at there.
-      let low = below key k at in
-      let is = same_key before other (get_or groups key.0 0, get_or members key.1 0) (get_or places k 0) there (moves.each key k at) in
-      ap p (ap c is ∙ same key low.0 low.1) in
-      let sum = added (λ k. p (c k)) (λ k. p (d k)) agree in
-      total-map e p behind ∙ total-same (λ k. p (e k)) (λ k. p (c k)) behind (λ key n k at. ap p (still key)) ∙ sum ∙ ap₂ ◌+◌ (sym (total-map c p before)) (sym (total-map d p entries))
-
-  module _ (new : Tables) (added : AreAllAdded old t moves new) where
-    pub added_sum : IsSum (counted old) (counted t) (counted new)
-    added_sum = record {
-      both = λ p. moved_total (three_of old.names old.words (keys_of old.rows)) (three_of t.names t.words (keys_of t.rows)) (three_of new.names new.words (keys_of new.rows)) p old.both t.both new.both
-          moves.rows.items moved.words moves.both.items (length t.rows) (length t.words) moved.both added.both inside.both three_moved (λ key. λ i. three_of (added.names i) (added.words i) (added.row_keys i) key);
-      first = λ p. moved_total (named_word old.names old.words) (named_word t.names t.words) (named_word new.names new.words) p old.rows t.rows new.rows
-          moved.words moved.names moves.rows.items (length t.words) (length t.names) moved.rows added.rows inside.rows named_moved (λ key. λ i. named_word (added.names i) (added.words i) key);
-      second = λ p. moved_total (named_word old.names old.words) (named_word t.names t.words) (named_word new.names new.words) p old.columns t.columns new.columns
-          moved.words moved.names moves.columns.items (length t.words) (length t.names) moved.columns added.columns inside.columns named_moved (λ key. λ i. named_word (added.names i) (added.words i) key);
-      alone = λ p. moved_total (named_word old.names old.words) (named_word t.names t.words) (named_word new.names new.words) p old.alone t.alone new.alone
-          moved.words moved.names moves.alone.items (length t.words) (length t.names) moved.alone added.alone inside.alone named_moved (λ key. λ i. named_word (added.names i) (added.words i) key);
-    }
-
 -- keys that stay are inside as before
 keys_below : (old new : List ((ℕ × ℕ) × ℕ)) (g m n o : ℕ) → keys_of new ≡ keys_of old → g ≡ n → m ≡ o → HasKeysBelow g m old → HasKeysBelow n o new
 keys_below old new g m n o same e f h key k at = let low = h key k (at_keys new old key k (sym same) at) in (omega (arith, low.0, e), omega (arith, low.1, f))
-
-pub added_inside : (old t : Tables) (moves : Moves) (new : Tables) → AreInside old → AreAllAdded old t moves new → AreInside new
-added_inside old t moves new inside added =
-    let names = ap (λ (xs : List (List ℕ)). length xs) (sym added.names) in
-    let words = ap (λ (xs : List (List ℕ)). length xs) (sym added.words) in
-    let rows : length old.rows ≡ length new.rows = omega (arith, length-keys old.rows, length-keys new.rows, ap (λ (ks : List (ℕ × ℕ)). length ks) added.row_keys) in
-    record {
-      rows = keys_below old.rows new.rows (length old.words) (length old.names) (length new.words) (length new.names) added.row_keys words names inside.rows;
-      both = keys_below old.both new.both (length old.rows) (length old.words) (length new.rows) (length new.words) added.both_keys rows words inside.both;
-      columns = keys_below old.columns new.columns (length old.words) (length old.names) (length new.words) (length new.names) added.column_keys words names inside.columns;
-      alone = keys_below old.alone new.alone (length old.words) (length old.names) (length new.words) (length new.names) added.alone_keys words names inside.alone;
-    }
 
 -- keys that were inside are inside where there are more names, words and rows
 wider : (old : List ((ℕ × ℕ) × ℕ)) (g m n o : ℕ) → g ≤ n → m ≤ o → HasKeysBelow g m old → HasKeysBelow n o old
@@ -161,32 +104,22 @@ pub inside_more : (old new : Tables) → Begins old.names new.names → Begins o
     (HasKeysBelow (length new.words) (length new.names) old.alone → HasKeysBelow (length new.words) (length new.names) new.alone) → AreInside old → AreInside new
 inside_more old new names words rows keep_rows keep_both keep_columns keep_alone = inside_longer old new names words (more_pairs old.rows new.rows rows) keep_rows keep_both keep_columns keep_alone
 
--- a name more, or a word more
-pub names_more : (t : Tables) (names : List (List ℕ)) → Begins t.names names → AreGrown t (record { names = names; words = t.words; rows = t.rows; both = t.both; columns = t.columns; alone = t.alone })
-names_more t names h =
-    let new : Tables = record { names = names; words = t.words; rows = t.rows; both = t.both; columns = t.columns; alone = t.alone } in
+-- more names and words
+pub texts_more : (t : Tables) (names words : List (List ℕ)) → Begins t.names names → Begins t.words words → AreGrown t (record { names = names; words = words; rows = t.rows; both = t.both; columns = t.columns; alone = t.alone })
+texts_more t names words h g =
+    let new : Tables = record { names = names; words = words; rows = t.rows; both = t.both; columns = t.columns; alone = t.alone } in
     record {
       names = h;
-      words = begins_none t.words;
+      words = g;
       rows = grows_none t.rows;
       both = grows_none t.both;
       columns = grows_none t.columns;
       alone = grows_none t.alone;
-      inside = inside_more t new h (begins_none t.words) (grows_none t.rows) (λ b. b) (λ b. b) (λ b. b) (λ b. b);
+      inside = inside_more t new h g (grows_none t.rows) (λ b. b) (λ b. b) (λ b. b) (λ b. b);
     }
 
-pub words_more : (t : Tables) (words : List (List ℕ)) → Begins t.words words → AreGrown t (record { names = t.names; words = words; rows = t.rows; both = t.both; columns = t.columns; alone = t.alone })
-words_more t words h =
-    let new : Tables = record { names = t.names; words = words; rows = t.rows; both = t.both; columns = t.columns; alone = t.alone } in
-    record {
-      names = begins_none t.names;
-      words = h;
-      rows = grows_none t.rows;
-      both = grows_none t.both;
-      columns = grows_none t.columns;
-      alone = grows_none t.alone;
-      inside = inside_more t new (begins_none t.names) h (grows_none t.rows) (λ b. b) (λ b. b) (λ b. b) (λ b. b);
-    }
+pub names_more : (t : Tables) (names : List (List ℕ)) → Begins t.names names → AreGrown t (record { names = names; words = t.words; rows = t.rows; both = t.both; columns = t.columns; alone = t.alone })
+names_more t names h = texts_more t names t.words h (begins_none t.words)
 
 -- what is grown first and added to then is the sum
 pub sum_behind : (old mid t new : Counted) → HaveSame old mid → IsSum mid t new → IsSum old t new
@@ -196,7 +129,3 @@ sum_behind old mid t new same sum = record {
   second = λ p. sum.second p ∙ ap (λ (n : ℕ). n + total p t.second) (same.second p);
   alone = λ p. sum.alone p ∙ ap (λ (n : ℕ). n + total p t.alone) (same.alone p);
 }
-
--- a key is there as before where counts rise
-pub raised_below : (low high : List ((ℕ × ℕ) × ℕ)) (place by g m : ℕ) → IsRaised low place by high → HasKeysBelow g m low → HasKeysBelow g m high
-raised_below low high place by g m r below key k at = below key k (at_keys high low key k (sym (keys_raised low high place by r)) at)

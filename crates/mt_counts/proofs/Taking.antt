@@ -1,16 +1,17 @@
 -- Counts that are taken away.
-use Rattle.std.proofs.Common.{◌≡◌, ℕ, ◌+◌, ◌≤◌, Bool, true, false, Some, List, [], ◌∷◌, length, map, take, slice_get, refl, sym, ap, subst, ◌∙◌, arith, add-one, if◌then◌else◌}
+use Rattle.std.proofs.Common.{◌≡◌, ℕ, ◌+◌, ◌≤◌, Bool, true, false, List, [], ◌∷◌, length, map, refl, sym, ap, subst, ◌∙◌, arith, if◌then◌else◌}
 use Rattle.std.specs.Map.{keys_of}
-use Rattle.std.specs.Option.{option_map}
-use Rattle.std.proofs.lemmas.Option.{slice_get-map}
-use Rattle.mt_counts.specs.Totals.{total, IsLowered, CountNoMore, AddUp}
+use Rattle.mt_counts.specs.Totals.{total, IsLowered, AddUp}
 use Rattle.mt_counts.specs.Tallies.{IsAt, IsRaised, HasKeysBelow}
-use Rattle.mt_counts.specs.Counted.{IsSum, IsWithin, is_two, is_three}
+use Rattle.mt_counts.specs.Counted.{Counted, IsSum, IsWithin, is_two, is_three}
+use Rattle.mt_counts.specs.Notes.{two_counted, one_counted}
+use Rattle.mt_counts.proofs.Keys.{three_own}
+use Rattle.mt_counts.proofs.Lists.{two_own}
 use Rattle.mt_counts.specs.Tables.{by_name, by_row, counted, AreInside}
 use Rattle.mt_counts.specs.declared.tables.Tables.{Tables}
 use Rattle.mt_counts.proofs.Entries.{length-keys}
-use Rattle.mt_counts.proofs.Moves.{at_keys, keys_raised}
-use Rattle.mt_counts.proofs.Totals.{part, total-map, total-raised, total-take, total-take-le, total-all, total-nothing, raised_key}
+use Rattle.mt_counts.proofs.Growing.{at_keys, keys_raised}
+use Rattle.mt_counts.proofs.Totals.{part, total-map, total-raised, raised_key}
 
 nothing_taken : {K : Type 0} (p : K → Bool) (key : K) (by : ℕ) → by ≡ 0 → total p ((key, by) ∷ []) ≡ 0
 nothing_taken p key by e = ap (λ (n : ℕ). total p ((key, n) ∷ [])) e ∙ zero_part (p key)
@@ -39,50 +40,6 @@ lowered_texts {L} d key text by old new is lowered p =
 pub keys_below : (old new : List ((ℕ × ℕ) × ℕ)) (g m : ℕ) → keys_of new ≡ keys_of old → HasKeysBelow g m old → HasKeysBelow g m new
 keys_below old new g m same below key k at = below key k (at_keys new old key k (sym same) at)
 
--- an entry under its texts
-pub entry_shown : {L : Type 0} (d : ℕ × ℕ → L) (entries : List ((ℕ × ℕ) × ℕ)) (k : ℕ) (entry : (ℕ × ℕ) × ℕ) (text : L) → slice_get entries k ≡ Some entry → d entry.0 ≡ text → slice_get {X = L × ℕ} (map (λ e. (d e.0, e.1)) entries) k ≡ Some (text, entry.1)
-entry_shown {L} d entries k entry text there is =
-    let show : (ℕ × ℕ) × ℕ → L × ℕ = λ e. (d e.0, e.1) in
-    let shown : slice_get (map show entries) k ≡ option_map show (slice_get entries k) = slice_get-map show entries k in
-    let found : option_map show (slice_get entries k) ≡ Some (show entry) = ap (option_map show) there in
-    let named : Some (show entry) ≡ Some (text, entry.1) = ap (λ (t : L). let pair : L × ℕ = (t, entry.1) in Some pair) is in
-    shown ∙ found ∙ named
-
--- ---- counts are taken, one after another
-
-pub record IsTaking {L : Type 0} (test : L → L → Bool) (d : ℕ × ℕ → L) (others : List (L × ℕ)) (k : ℕ) (first now : List ((ℕ × ℕ) × ℕ)) : Type 0 where
-  pub keys : keys_of now ≡ keys_of first
-  pub totals : CountNoMore test others (map (λ e. (d e.0, e.1)) first) → AddUp (take k others) (map (λ e. (d e.0, e.1)) now) (map (λ e. (d e.0, e.1)) first)
-
-pub taking_none : {L : Type 0} (test : L → L → Bool) (d : ℕ × ℕ → L) (others : List (L × ℕ)) (first : List ((ℕ × ℕ) × ℕ)) → IsTaking test d others 0 first first
-taking_none test d others first = record { keys = refl; totals = λ no_more p. omega (arith, total-nothing p others) }
-
-pub taking_more : {L : Type 0} (test : L → L → Bool) (d : ℕ × ℕ → L) (others : List (L × ℕ)) (k : ℕ) (first now next : List ((ℕ × ℕ) × ℕ)) (key : L) (count : ℕ) → IsTaking test d others k first now → slice_get others k ≡ Some (key, count) →
-    test key key ≡ true → keys_of next ≡ keys_of now → (count ≤ total (test key) (map (λ e. (d e.0, e.1)) now) → IsLowered key count (map (λ e. (d e.0, e.1)) now) (map (λ e. (d e.0, e.1)) next)) → IsTaking test d others (k + 1) first next
-taking_more {L} test d others k first now next key count taking there own keys lowered = record {
-  keys = keys ∙ taking.keys;
-  totals = λ no_more p. more p (taking.totals no_more p) (lowered (enough no_more));
-}
-  where
-    shown : List ((ℕ × ℕ) × ℕ) → List (L × ℕ)
-    shown entries = map (λ e. (d e.0, e.1)) entries
-
-    taken : (p : L → Bool) → total p (take (k + 1) others) ≡ total p (take k others) + part p key count
-    taken p = rw (add-one k) (total-take p others key count k there)
-
-    enough : CountNoMore test others (map (λ e. (d e.0, e.1)) first) → count ≤ total (test key) (map (λ e. (d e.0, e.1)) now)
-    enough no_more =
-        let here : part (test key) key count ≡ count = ap (λ (b : Bool). if b then count else 0) own in
-        omega (arith, no_more key, taking.totals no_more (test key), taken (test key), total-take-le (test key) others (k + 1), here)
-
-    more : (p : L → Bool) → total p (map (λ e. (d e.0, e.1)) first) ≡ total p (take k others) + total p (map (λ e. (d e.0, e.1)) now) → IsLowered key count (map (λ e. (d e.0, e.1)) now) (map (λ e. (d e.0, e.1)) next) →
-        total p (map (λ e. (d e.0, e.1)) first) ≡ total p (take (k + 1) others) + total p (map (λ e. (d e.0, e.1)) next)
-    more p before low = omega (arith, before, low p, taken p)
-
-pub taking_all : {L : Type 0} (test : L → L → Bool) (d : ℕ × ℕ → L) (others : List (L × ℕ)) (k : ℕ) (first now : List ((ℕ × ℕ) × ℕ)) → IsTaking test d others k first now → length others ≤ k →
-    CountNoMore test others (map (λ e. (d e.0, e.1)) first) → AddUp others (map (λ e. (d e.0, e.1)) now) (map (λ e. (d e.0, e.1)) first)
-taking_all test d others k first now taking l no_more p = omega (arith, taking.totals no_more p, total-all p others k l)
-
 -- ---- whole tables
 
 module _ (t : Tables) (rows both columns alone : List ((ℕ × ℕ) × ℕ)) (row_keys : keys_of rows ≡ keys_of t.rows) where
@@ -99,20 +56,44 @@ module _ (t : Tables) (rows both columns alone : List ((ℕ × ℕ) × ℕ)) (ro
         alone = keys_below t.alone alone (length t.words) (length t.names) alone_keys inside.alone;
       }
 
-  -- what is taken from one of the tables of names and words
-  abbrev pub NamesTaken : (others : Tables) → (entries old new : List ((ℕ × ℕ) × ℕ)) → Type 0
-  NamesTaken others entries old new = CountNoMore (λ key. is_two key.0 key.1) (by_name others.names others.words entries) (by_name t.names t.words old) → AddUp (by_name others.names others.words entries) (by_name t.names t.words new) (by_name t.names t.words old)
+-- ---- one count
 
-  -- and from that of rows and words
-  abbrev pub RowsTaken : (others : Tables) → Type 0
-  RowsTaken others = CountNoMore (λ key. is_three key.0 key.1 key.2) (by_row others.names others.words (keys_of others.rows) others.both) (by_row t.names t.words (keys_of t.rows) t.both) →
-      AddUp (by_row others.names others.words (keys_of others.rows) others.both) (by_row t.names t.words (keys_of t.rows) both) (by_row t.names t.words (keys_of t.rows) t.both)
+counts_one : {K : Type 0} (test : K → Bool) (key : K) → test key ≡ true → total test ((key, 1) ∷ []) ≡ 1
+counts_one test key own = ap (λ (b : Bool). (if b then 1 else 0) + 0) own
 
-  pub left_sum : (others : Tables) → RowsTaken others → NamesTaken others others.rows t.rows rows → NamesTaken others others.columns t.columns columns → NamesTaken others others.alone t.alone alone → IsWithin (counted others) (counted t) →
-      IsSum (counted others) (counted left) (counted t)
-  left_sum others both_taken rows_taken columns_taken alone_taken within = record {
-    both = λ p. subst (λ (ks : List (ℕ × ℕ)). total p (counted t).both ≡ total p (counted others).both + total p (by_row t.names t.words ks both)) (sym row_keys) (both_taken (λ key. within.both key.0 key.1 key.2) p);
-    first = rows_taken (λ key. within.first key.0 key.1);
-    second = columns_taken (λ key. within.second key.0 key.1);
-    alone = alone_taken (λ key. within.alone key.0 key.1);
+has_one : {K : Type 0} (test : K → Bool) (key : K) (entries : List (K × ℕ)) → test key ≡ true → total test ((key, 1) ∷ []) ≤ total test entries → 1 ≤ total test entries
+has_one test key entries own l = omega (arith, l, counts_one test key own)
+
+-- what counts nothing has no part
+pub has_none : {K : Type 0} (test : K → Bool) (key : K) (entries : List (K × ℕ)) → test key ≡ true → total test ((key, 1) ∷ []) ≤ total test entries → total test entries ≡ 0 → ⊥
+has_none test key entries own l none = omega (arith, l, none, counts_one test key own)
+
+takes_one : {K : Type 0} (key : K) (old new : List (K × ℕ)) → IsLowered key 1 old new → AddUp ((key, 1) ∷ []) new old
+takes_one key old new lowered p = omega (arith, lowered p)
+
+-- one count of a name with two words is taken, and one of a unary name with its word
+module _ (t : Tables) (name first second : List ℕ) (rows both columns : List ((ℕ × ℕ) × ℕ)) (row_keys : keys_of rows ≡ keys_of t.rows) where
+  pub two_taken : (1 ≤ total (is_three name first second) (counted t).both → IsLowered (name, first, second) 1 (counted t).both (by_row t.names t.words (keys_of t.rows) both)) →
+      (1 ≤ total (is_two name first) (counted t).first → IsLowered (name, first) 1 (counted t).first (by_name t.names t.words rows)) →
+      (1 ≤ total (is_two name second) (counted t).second → IsLowered (name, second) 1 (counted t).second (by_name t.names t.words columns)) →
+      IsWithin (two_counted name first second) (counted t) → IsSum (two_counted name first second) (counted (left t rows both columns t.alone row_keys)) (counted t)
+  two_taken lower_both lower_first lower_second within = record {
+    both = λ p. subst (λ (ks : List (ℕ × ℕ)). total p (counted t).both ≡ total p (two_counted name first second).both + total p (by_row t.names t.words ks both)) (sym row_keys)
+        (takes_one (name, first, second) (counted t).both (by_row t.names t.words (keys_of t.rows) both) (lower_both (has_one (is_three name first second) (name, first, second) (counted t).both (three_own name first second) (within.both name first second))) p);
+    first = takes_one (name, first) (counted t).first (by_name t.names t.words rows) (lower_first (has_one (is_two name first) (name, first) (counted t).first (two_own name first) (within.first name first)));
+    second = takes_one (name, second) (counted t).second (by_name t.names t.words columns) (lower_second (has_one (is_two name second) (name, second) (counted t).second (two_own name second) (within.second name second)));
+    alone = λ p. omega arith;
   }
+
+pub one_taken : (t : Tables) (name word : List ℕ) (alone : List ((ℕ × ℕ) × ℕ)) → (1 ≤ total (is_two name word) (counted t).alone → IsLowered (name, word) 1 (counted t).alone (by_name t.names t.words alone)) →
+    IsWithin (one_counted name word) (counted t) → IsSum (one_counted name word) (counted (left t t.rows t.both t.columns alone refl)) (counted t)
+one_taken t name word alone lower_alone within = record {
+  both = λ p. omega arith;
+  first = λ p. omega arith;
+  second = λ p. omega arith;
+  alone = takes_one (name, word) (counted t).alone (by_name t.names t.words alone) (lower_alone (has_one (is_two name word) (name, word) (counted t).alone (two_own name word) (within.alone name word)));
+}
+
+-- under other names for what is taken
+pub taken_as : (a b old new : Counted) → a ≡ b → (IsWithin a old → IsSum a new old) → IsWithin b old → IsSum b new old
+taken_as a b old new e h = subst (λ (k : Counted). IsWithin k old → IsSum k new old) e h

@@ -1,5 +1,5 @@
 -- What counts add up to.
-use Rattle.std.proofs.Common.{◌≡◌, ◌≢◌, ℕ, zero, suc, ◌+◌, ◌≤◌, Bool, true, false, if◌then◌else◌, Some, List, [], ◌∷◌, ◌++◌, length, map, take, slice_get, refl, sym, ap, ◌∙◌, arith}
+use Rattle.std.proofs.Common.{◌≡◌, ◌≢◌, ℕ, zero, suc, ◌+◌, ◌≤◌, Bool, true, false, if◌then◌else◌, Some, List, [], ◌∷◌, ◌++◌, length, map, slice_get, refl, sym, ap, ◌∙◌, arith}
 use Rattle.std.specs.List.{All}
 use Rattle.std.proofs.lemmas.List.Elements.{All-head, All-tail}
 use Rattle.std.proofs.lemmas.Option.{slice_get_within}
@@ -50,26 +50,6 @@ raised_key low high place by r key at = ap (λ (e : _). e.0) (same r.front (r.ke
     same [] x back y e = cc
     same (z ∷ front) x back y e = same front x back y e
 
--- and keys stay where they are
-pub raised_at_all : {K : Type 0} (low high : List (K × ℕ)) (place by : ℕ) → IsRaised low place by high → (key : K) (k : ℕ) → IsAt low key k → IsAt high key k
-raised_at_all low high place by r key k at = still r.front r.key r.count (r.count + by) r.back key at.count k (ap (λ (es : _). slice_get es k) (sym r.low_is) ∙ at.there) high r.high_is
-  where
-    keep : {K : Type 0} (front : List (K × ℕ)) (at : K) (m n : ℕ) (back : List (K × ℕ)) (key : K) (count k : ℕ) → slice_get (front ++ (at, m) ∷ back) k ≡ Some (key, count) → IsAt (front ++ (at, n) ∷ back) key k
-    keep {K} [] at m n back key count zero e = let is : ◌≡◌ {A = K × ℕ} (at, m) (key, count) = cc in record { count = n; there = ap (λ (k : _). Some (k, n)) (ap (λ (x : _). x.0) is) }
-    keep [] at m n back key count (suc k) e = record { count = count; there = e }
-    keep (z ∷ front) at m n back key count zero e = record { count = count; there = e }
-    keep (z ∷ front) at m n back key count (suc k) e = let h = keep front at m n back key count k e in record { count = h.count; there = h.there }
-
-    still : {K : Type 0} (front : List (K × ℕ)) (at : K) (m n : ℕ) (back : List (K × ℕ)) (key : K) (count k : ℕ) → slice_get (front ++ (at, m) ∷ back) k ≡ Some (key, count) → (high : List (K × ℕ)) → high ≡ front ++ (at, n) ∷ back → IsAt high key k
-    still front at m n back key count k e high is = rw is (keep front at m n back key count k e)
-
-pub raised_length : {K : Type 0} (low high : List (K × ℕ)) (place by : ℕ) → IsRaised low place by high → length high ≡ length low
-raised_length low high place by r = ap length r.high_is ∙ even r.front (r.key, r.count + by) (r.key, r.count) r.back ∙ sym (ap length r.low_is)
-  where
-    even : {X : Type 0} (front : List X) (x y : X) (back : List X) → length (front ++ x ∷ back) ≡ length (front ++ y ∷ back)
-    even [] x y back = refl
-    even (z ∷ front) x y back = ap suc (even front x y back)
-
 -- one count is no more than a total that has it
 pub count-within : {K : Type 0} (p : K → Bool) (es : List (K × ℕ)) (key : K) (n k : ℕ) → slice_get es k ≡ Some (key, n) → p key ≡ true → n ≤ total p es
 count-within p [] key n k e h = absurd (omega (arith, slice_get_within [] k (key, n) e))
@@ -78,27 +58,6 @@ count-within p (x ∷ es) key n zero e h =
     let here : part p x.0 x.1 ≡ n = ap (λ (y : _). part p y.0 y.1) is ∙ ap (λ (b : Bool). if b then n else 0) h in
     omega (arith, here)
 count-within p (x ∷ es) key n (suc k) e h = omega (arith, count-within p es key n k e h)
-
--- the entries before a place, and one more
-pub total-take : {K : Type 0} (p : K → Bool) (es : List (K × ℕ)) (key : K) (n k : ℕ) → slice_get es k ≡ Some (key, n) → total p (take (suc k) es) ≡ total p (take k es) + part p key n
-total-take p [] key n k e = absurd (omega (arith, slice_get_within [] k (key, n) e))
-total-take p (x ∷ es) key n zero e =
-    let is : x ≡ (key, n) = cc in
-    let here : part p x.0 x.1 ≡ part p key n = ap (λ (y : _). part p y.0 y.1) is in
-    omega (arith, here)
-total-take p (x ∷ es) key n (suc k) e = omega (arith, total-take p es key n k e)
-
-pub total-take-le : {K : Type 0} (p : K → Bool) (es : List (K × ℕ)) (k : ℕ) → total p (take k es) ≤ total p es
-total-take-le p [] zero = omega arith
-total-take-le p [] (suc k) = omega arith
-total-take-le p (x ∷ es) zero = omega arith
-total-take-le p (x ∷ es) (suc k) = omega (arith, total-take-le p es k)
-
-pub total-all : {K : Type 0} (p : K → Bool) (es : List (K × ℕ)) (k : ℕ) → length es ≤ k → total p (take k es) ≡ total p es
-total-all p [] zero l = refl
-total-all p [] (suc k) l = refl
-total-all p (x ∷ es) zero l = absurd (omega (arith, l))
-total-all p (x ∷ es) (suc k) l = omega (arith, total-all p es k (omega (arith, l)))
 
 -- the same test
 pub total-same : {K : Type 0} (p q : K → Bool) (es : List (K × ℕ)) → ((key : K) (n k : ℕ) → slice_get es k ≡ Some (key, n) → p key ≡ q key) → total p es ≡ total q es
@@ -130,7 +89,3 @@ total-one p (x ∷ es) key n zero e h others =
 total-one p (x ∷ es) key n (suc place) e h others =
     let here : part p x.0 x.1 ≡ 0 = ap (λ (b : Bool). if b then x.1 else 0) (others x.0 x.1 0 refl (λ (z : 0 ≡ suc place). absurd (omega (arith, z)))) in
     omega (arith, here, total-one p es key n place e h (λ other m k f ne. others other m (suc k) f (λ (z : suc k ≡ suc place). ne (omega (arith, z)))))
-
-pub total-nothing : {K : Type 0} (p : K → Bool) (es : List (K × ℕ)) → total p (take 0 es) ≡ 0
-total-nothing p [] = refl
-total-nothing p (x ∷ es) = refl

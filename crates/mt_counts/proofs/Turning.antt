@@ -10,7 +10,7 @@ pub record AreTurning {X : Type 0} (R : X → X → Type 0) (old now : List X) (
   pub done : AllZip R (take k old) (take k now)
   pub rest : (j : ℕ) (d : X) → k ≤ j → get_or now j d ≡ get_or old j d
 
-pub zip_weaker : {X : Type 0} (R S : X → X → Type 0) (xs ys : List X) → ((x y : X) → R x y → S x y) → AllZip R xs ys → AllZip S xs ys
+pub zip_weaker : {A B : Type 0} (R S : A → B → Type 0) (xs : List A) (ys : List B) → ((x : A) (y : B) → R x y → S x y) → AllZip R xs ys → AllZip S xs ys
 zip_weaker R S [] [] weaker h = tt
 zip_weaker R S [] (y ∷ ys) weaker h = absurd h
 zip_weaker R S (x ∷ xs) [] weaker h = absurd h

@@ -1,8 +1,8 @@
--- Counts that are made, with the names and words that have numbers.
+-- What is noted of a text, with the names and words that have numbers.
 use Rattle.std.specs.Prelude.{ℕ, List}
 use Rattle.mt_counts.specs.Counted.{Counted}
 
--- what a builder has: the names and the words by their numbers, and what is counted
+-- the names and the words by their numbers, and what is counted
 pub record Building : Type 0 where
   pub names : List (List ℕ)
   pub words : List (List ℕ)

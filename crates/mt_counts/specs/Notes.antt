@@ -1,10 +1,12 @@
 -- Instances by numbers of names and words, and what they count.
-use Rattle.std.specs.Prelude.{ℕ, ◌≡◌, ◌<◌, List, [], ◌∷◌, Option, None, Some, IfSome, length, flat_map}
-use Rattle.std.specs.List.{All}
+use Rattle.std.specs.Prelude.{ℕ, ◌<◌, List, [], ◌∷◌, Option, None, Some, IfSome, length, flat_map, option_map, slice_index}
+use Rattle.std.specs.List.{AllZip}
 use Rattle.mt_counts.specs.Counted.{Counted}
 use Rattle.mt_counts.specs.Tables.{text_at}
-use Rattle.mt_counts.specs.Tallies.{IsAt, HasKeysBelow}
+use Rattle.mt_counts.specs.Tallies.{IsAt}
 use Rattle.mt_counts.specs.declared.note.Note.{Note}
+use Rattle.mt_counts.specs.declared.blocks.Block.{Block}
+use Rattle.mt_counts.specs.declared.tables.Tables.{Tables}
 
 -- the numbers of a note are those of a name and of words
 pub record IsNoteIn (names words : List (List ℕ)) (note : Note) : Type 0 where
@@ -31,34 +33,46 @@ noted names words notes = record {
   alone = flat_map (λ note. with_one note.second (text_at names note.name, text_at words note.first)) notes;
 }
 
--- the row, the column and the pair of a word and a unary name that a note counts under
-abbrev pub row_of : Note → List ((ℕ × ℕ) × ℕ)
-row_of note = with_two note.second (λ second. (note.first, note.name))
+-- one count of a name with two words, and one of a unary name with its word
+abbrev pub two_counted : (name first second : List ℕ) → Counted
+two_counted name first second = record { both = ((name, first, second), 1) ∷ []; first = ((name, first), 1) ∷ []; second = ((name, second), 1) ∷ []; alone = [] }
 
-abbrev pub column_of : Note → List ((ℕ × ℕ) × ℕ)
-column_of note = with_two note.second (λ second. (second, note.name))
+abbrev pub one_counted : (name word : List ℕ) → Counted
+one_counted name word = record { both = []; first = []; second = []; alone = ((name, word), 1) ∷ [] }
 
-abbrev pub alone_of : Note → List ((ℕ × ℕ) × ℕ)
-alone_of note = with_one note.second (note.first, note.name)
+-- the key that a second word tells, where there is one
+abbrev pub key_of_two : Option ℕ → (ℕ → ℕ × ℕ) → List (ℕ × ℕ)
+key_of_two None key = []
+key_of_two (Some second) key = key second ∷ []
 
--- and the pair of a row and a second word, where the number of the row stands in the place of the first word
-abbrev pub pair_of : Note → List ((ℕ × ℕ) × ℕ)
-pair_of note = with_two note.second (λ second. (note.first, second))
+-- a key, where there is no second word
+abbrev pub key_of_one : Option ℕ → ℕ × ℕ → List (ℕ × ℕ)
+key_of_one None key = key ∷ []
+key_of_one (Some second) key = []
 
--- the number of the row of a note with two words has come in the place of its first word
-pub record IsTurned (rows : List ((ℕ × ℕ) × ℕ)) (note turned : Note) : Type 0 where
-  pub second : turned.second ≡ note.second
-  pub row : IfSome note.second (λ second. IsAt rows (note.first, note.name) turned.first)
+-- the rows of notes with two words, their second words with the names, and the words of the others with the names
+abbrev pub rows_of : List Note → List (ℕ × ℕ)
+rows_of notes = flat_map (λ note. key_of_two note.second (λ second. (note.first, note.name))) notes
 
--- Keys keep their places, and where what may be added fits below some numbers, all keys stay below them.
-pub record Keeps (Fits : (groups members : ℕ) → Type 0) (old new : List ((ℕ × ℕ) × ℕ)) : Type 0 where
-  pub places : (key : ℕ × ℕ) (place : ℕ) → IsAt old key place → IsAt new key place
-  pub below : (groups members : ℕ) → Fits groups members → HasKeysBelow groups members old → HasKeysBelow groups members new
+abbrev pub columns_of : List Note → List (ℕ × ℕ)
+columns_of notes = flat_map (λ note. key_of_two note.second (λ second. (second, note.name))) notes
 
--- what a note counts under is below these numbers
-abbrev pub Fits : (Note → List ((ℕ × ℕ) × ℕ)) → Note → (groups members : ℕ) → Type 0
-Fits keys note groups members = HasKeysBelow groups members (keys note)
+abbrev pub alone_of : List Note → List (ℕ × ℕ)
+alone_of notes = flat_map (λ note. key_of_one note.second (note.first, note.name)) notes
 
--- and so for each of them
-abbrev pub FitAll : (Note → List ((ℕ × ℕ) × ℕ)) → List Note → (groups members : ℕ) → Type 0
-FitAll keys notes groups members = All (λ note. HasKeysBelow groups members (keys note)) notes
+-- the numbers of rows with the words of as many columns
+abbrev pub pairs_of : (rows : List ℕ) (columns : List (ℕ × ℕ)) → List (ℕ × ℕ)
+pairs_of [] columns = []
+pairs_of (row ∷ rows) [] = []
+pairs_of (row ∷ rows) (column ∷ columns) = (row, column.0) ∷ pairs_of rows columns
+
+-- a note by other numbers of names and words
+abbrev pub renumbered : (names words : List ℕ) → Note → Note
+renumbered names words note = record { name = slice_index names note.name; first = slice_index words note.first; second = option_map (λ second. slice_index words second) note.second }
+
+-- the pairs of all notes of a block stand at their places
+pub record ArePlaced (t : Tables) (block : Block) : Type 0 where
+  pub rows : AllZip (IsAt t.rows) (rows_of block.notes.items) block.rows.items
+  pub both : AllZip (IsAt t.both) (pairs_of block.rows.items (columns_of block.notes.items)) block.both.items
+  pub columns : AllZip (IsAt t.columns) (columns_of block.notes.items) block.columns.items
+  pub alone : AllZip (IsAt t.alone) (alone_of block.notes.items) block.alone.items

@@ -1,12 +1,11 @@
 -- Tables of counts by numbers, and what they stand for.
-use Rattle.std.specs.Prelude.{ℕ, ◌≡◌, ◌+◌, ◌^◌, ◌<◌, List, [], length, map, slice_index_or}
+use Rattle.std.specs.Prelude.{ℕ, ◌+◌, ◌^◌, ◌<◌, List, [], length, map, slice_index_or}
 use Rattle.std.specs.Map.{keys_of}
-use Rattle.mt_counts.specs.Names.{Begins, AreRenumbered}
-use Rattle.mt_counts.specs.Tallies.{Grows, HasKeysBelow, AreMoved, AreAdded}
+use Rattle.mt_counts.specs.Names.{Begins}
+use Rattle.mt_counts.specs.Tallies.{Grows, HasKeysBelow}
 use Rattle.mt_counts.specs.Totals.{total_of_all}
 use Rattle.mt_counts.specs.Counted.{Counted}
 use Rattle.mt_counts.specs.declared.tables.Tables.{Tables}
-use Rattle.mt_counts.specs.declared.tables.Moves.{Moves}
 
 -- the text with this number
 abbrev pub text_at : List (List ℕ) → ℕ → List ℕ
@@ -58,33 +57,9 @@ pub record AreGrown (old new : Tables) : Type 0 where
   pub alone : Grows old.alone new.alone
   pub inside : AreInside old → AreInside new
 
--- all that one has stands in the other, at these places
-pub record AreAllMoved (t others : Tables) (moves : Moves) : Type 0 where
-  pub names : List ℕ
-  pub words : List ℕ
-  pub names_are : AreRenumbered t.names others.names names
-  pub words_are : AreRenumbered t.words others.words words
-  pub rows : AreMoved t.rows others.rows words names moves.rows.items
-  pub both : AreMoved t.both others.both moves.rows.items words moves.both.items
-  pub columns : AreMoved t.columns others.columns words names moves.columns.items
-  pub alone : AreMoved t.alone others.alone words names moves.alone.items
-
--- the counts of all pairs were added at their places
-pub record AreAllAdded (old t : Tables) (moves : Moves) (new : Tables) : Type 0 where
-  pub names : new.names ≡ old.names
-  pub words : new.words ≡ old.words
-  pub row_keys : keys_of new.rows ≡ keys_of old.rows
-  pub both_keys : keys_of new.both ≡ keys_of old.both
-  pub column_keys : keys_of new.columns ≡ keys_of old.columns
-  pub alone_keys : keys_of new.alone ≡ keys_of old.alone
-  pub rows : AreAdded old.rows t.rows moves.rows.items new.rows
-  pub both : AreAdded old.both t.both moves.both.items new.both
-  pub columns : AreAdded old.columns t.columns moves.columns.items new.columns
-  pub alone : AreAdded old.alone t.alone moves.alone.items new.alone
-
--- all counts of both together are numbers of 64 bits
-pub record HaveRoom (t others : Tables) : Type 0 where
-  pub rows : total_of_all t.rows + total_of_all others.rows < 2 ^ 64
-  pub both : total_of_all t.both + total_of_all others.both < 2 ^ 64
-  pub columns : total_of_all t.columns + total_of_all others.columns < 2 ^ 64
-  pub alone : total_of_all t.alone + total_of_all others.alone < 2 ^ 64
+-- so many more can be counted in each table
+pub record HasRoomFor (t : Tables) (more : ℕ) : Type 0 where
+  pub rows : total_of_all t.rows + more < 2 ^ 64
+  pub both : total_of_all t.both + more < 2 ^ 64
+  pub columns : total_of_all t.columns + more < 2 ^ 64
+  pub alone : total_of_all t.alone + more < 2 ^ 64

@@ -1,6 +1,5 @@
 -- What is at the places of a list of counts, and how it grows.
-use Rattle.std.specs.Prelude.{ℕ, ◌≡◌, ◌≢◌, ◌+◌, ◌<◌, List, ◌∷◌, ◌++◌, Bool, length, slice_get, slice_index, Some}
-use Rattle.mt_counts.specs.Totals.{total}
+use Rattle.std.specs.Prelude.{ℕ, ◌≡◌, ◌≢◌, ◌+◌, ◌<◌, List, ◌∷◌, ◌++◌, length, map, slice_get, Some}
 use Rattle.std.specs.List.{All, AllPairs, Contains}
 
 -- a key stands at a place, with whatever count
@@ -50,28 +49,10 @@ pub record IsRaised {K : Type 0} (low : List (K × ℕ)) (place by : ℕ) (high 
 abbrev pub HasKeysBelow : (groups members : ℕ) → List ((ℕ × ℕ) × ℕ) → Type 0
 HasKeysBelow groups members entries = (key : ℕ × ℕ) (place : ℕ) → IsAt entries key place → (key.0 < groups) × (key.1 < members)
 
--- each of the numbers is below a limit
-abbrev pub AreBelow : (limit : ℕ) → List ℕ → Type 0
-AreBelow limit numbers = (k : ℕ) → k < length numbers → slice_index numbers k < limit
+-- and so of keys alone
+abbrev pub AreKeysBelow : (groups members : ℕ) → List (ℕ × ℕ) → Type 0
+AreKeysBelow groups members keys = All (λ key. (key.0 < groups) × (key.1 < members)) keys
 
--- each pair stands among others at its place there, where its group and member have other numbers
-pub record AreMoved (entries others : List ((ℕ × ℕ) × ℕ)) (groups members places : List ℕ) : Type 0 where
-  pub count : length places ≡ length entries
-  pub each : (key : ℕ × ℕ) (k : ℕ) → IsAt entries key k → IsAt others (slice_index groups key.0, slice_index members key.1) (slice_index places k)
-
--- each entry has a place among the others
-pub record HavePlaces {K L : Type 0} (entries : List (K × ℕ)) (others : List (L × ℕ)) (places : List ℕ) : Type 0 where
-  pub count : length places ≡ length entries
-  pub within : (k : ℕ) → k < length entries → slice_index places k < length others
-
--- The counts of entries were added at their places: where a test of keys there says what another says of the entries, their totals are added up.
-abbrev pub AreAdded : {K L : Type 0} (old : List (L × ℕ)) (entries : List (K × ℕ)) (places : List ℕ) (new : List (L × ℕ)) → Type 0
-AreAdded {K} {L} old entries places new =
-    (p : L → Bool) (q : K → Bool) → ((key : K) (other : L) (k : ℕ) → IsAt entries key k → IsAt old other (slice_index places k) → p other ≡ q key) → total p new ≡ total p old + total q entries
-
--- Keys may have been added, with the count 0, and then the count of this key, which stands at this place, has risen by one.
-pub record IsCounted {K : Type 0} (old : List (K × ℕ)) (key : K) (place : ℕ) (new : List (K × ℕ)) : Type 0 where
-  pub grown : List (K × ℕ)
-  pub grows : Grows old grown
-  pub at : IsAt grown key place
-  pub raised : IsRaised grown place 1 new
+-- each of the keys counts once, as often as it is there
+abbrev pub each_once : {K : Type 0} → List K → List (K × ℕ)
+each_once keys = map (λ key. (key, 1)) keys

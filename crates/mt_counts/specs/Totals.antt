@@ -1,5 +1,5 @@
 -- Counts by keys, and what they add up to.
-use Rattle.std.specs.Prelude.{ℕ, ◌+◌, ◌≡◌, ◌≤◌, Bool, ◌&&◌, List, [], ◌∷◌, true, if◌then◌else◌, nat_eq}
+use Rattle.std.specs.Prelude.{ℕ, ◌+◌, ◌≡◌, Bool, ◌&&◌, List, [], ◌∷◌, true, if◌then◌else◌, nat_eq}
 
 -- the counts of the keys that pass a test, added up
 abbrev pub total : {K : Type 0} → (K → Bool) → List (K × ℕ) → ℕ
@@ -21,10 +21,6 @@ count_at entries key = total (is_key key) entries
 -- so much was taken from what counts for a key, and nothing else
 abbrev pub IsLowered : {K : Type 0} → (key : K) (by : ℕ) (old new : List (K × ℕ)) → Type 0
 IsLowered {K} key by old new = (p : K → Bool) → total p old ≡ total p new + total p ((key, by) ∷ [])
-
--- by a test for each key, some entries count no more than others
-abbrev pub CountNoMore : {K : Type 0} → (test : K → K → Bool) (some others : List (K × ℕ)) → Type 0
-CountNoMore {K} test some others = (key : K) → total (test key) some ≤ total (test key) others
 
 -- what some keys count is what they count in both parts
 abbrev pub AddUp : {K : Type 0} → (first second all : List (K × ℕ)) → Type 0

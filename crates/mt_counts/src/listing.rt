@@ -27,8 +27,7 @@ impl Counts {
     pub fn heads(&self, alloc: Global, word: &str) -> Result<List<Head>, NoMemory>
         ensures { IfOk result (λ heads. ListsOnce (IsHead self.now word.now) heads) }
     {
-        let word = Value::new(alloc, word)?;
-        match self.tables.words.find(&word) {
+        match self.tables.words.find(word) {
             Some(x) => self.tables.heads(alloc, x),
             None => Ok(List::new(alloc)),
         }
@@ -55,7 +54,7 @@ impl Tables {
         let mut words = List::new(alloc);
         for x in 0..self.words.len() {
             if self.rows.has(x as u32) {
-                words.push(self.words.get(x).copy(alloc)?)?;
+                words.push(Value::new(alloc, self.words.get(x))?)?;
             }
         }
         Ok(words)
@@ -109,7 +108,7 @@ fn add_heads(
 {
     for place in places {
         let ((_, name), count) = tally.get(*place as usize);
-        let name = names.get(name as usize).copy(alloc)?;
+        let name = Value::new(alloc, names.get(name as usize))?;
         heads.push(Head { name, unary, count })?;
     }
     Ok(())

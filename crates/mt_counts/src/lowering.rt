@@ -1,138 +1,158 @@
 //! Counts that are taken away.
 
-ghost use Rattle.std.specs.Prelude.{◌≡◌, ◌<◌, ◌≤◌, length};
+ghost use Rattle.std.specs.Prelude.{◌≡◌, ◌∷◌, [], ◌<◌, ◌≤◌, length};
+ghost use Rattle.std.specs.List.{All};
 ghost use Rattle.std.specs.Map.{keys_of};
 ghost use Rattle.mt_counts.specs.Counted.{IsSum, IsWithin, is_three, is_two};
-ghost use Rattle.mt_counts.specs.Tables.{AreInside, by_name, by_row, counted};
+ghost use Rattle.mt_counts.specs.Notes.{IsNoteIn, noted, one_counted, two_counted};
+ghost use Rattle.mt_counts.specs.Tables.{AreInside, by_name, by_row, counted, text_at};
 ghost use Rattle.mt_counts.specs.Tallies.{HasKeysBelow};
-ghost use Rattle.mt_counts.specs.Totals.{AddUp, CountNoMore, IsLowered, total};
+ghost use Rattle.mt_counts.specs.Totals.{IsLowered, total};
 
 use super::counts::Counts;
 use super::names::Names;
-use super::pairs::row_of;
+use super::note::Note;
+use super::noted::Noted;
 use super::tables::Tables;
 use super::tally::Tally;
-use mt_base::Value;
+use mt_base::Strings;
 
 impl Counts {
-    /// Takes away the counts of another table, at the cost of what that one has. Where they are part of these, what is left is the other part. It takes no memory.
-    pub fn subtract(&mut self, other: &Counts)
-        ensures { IsWithin other.now self.old → IsSum other.now self.new self.old }
+    /// Takes away what a text counts, at the cost of what it has. Where that is part of these counts, what is left is the other part. It takes no memory.
+    pub fn subtract(&mut self, text: &Noted)
+        ensures { IsWithin text.now.counted self.old → IsSum text.now.counted self.new self.old }
     {
-        self.tables.lower_all(&other.tables);
+        self.tables
+            .lower_all(&text.names, &text.words, text.notes.as_slice());
     }
 }
 
 impl Tables {
-    /// Takes away the counts of other tables.
-    fn lower_all(&mut self, others: &Tables)
+    /// Takes away what some notes count, which have the numbers of these names and words.
+    pub(crate) fn lower_all(&mut self, names: &Strings, words: &Strings, notes: &[Note])
         requires inside { AreInside self.old }
-        requires others { AreInside others.now }
+        requires notes { All (IsNoteIn names.now words.now) notes.now }
         ensures inside { AreInside self.new }
-        ensures taken { IsWithin (counted others.now) (counted self.old) → IsSum (counted others.now) (counted self.new) (counted self.old) }
+        ensures taken { IsWithin (noted names.now words.now notes.now) (counted self.old) → IsSum (noted names.now words.now notes.now) (counted self.new) (counted self.old) }
     {
-        lower_rows(&mut self.both, &self.rows, &self.names, &self.words, others);
-        lower_names(
-            &mut self.rows,
+        for k in 0..notes.len() {
+            self.lower_note(names, words, notes[k]);
+        }
+    }
+
+    /// Takes away what a note counts.
+    fn lower_note(&mut self, names: &Strings, words: &Strings, note: Note)
+        requires inside { AreInside self.old }
+        requires note { IsNoteIn names.now words.now note }
+        ensures inside { AreInside self.new }
+        ensures taken { IsWithin (noted names.now words.now (note ∷ [])) (counted self.old) → IsSum (noted names.now words.now (note ∷ [])) (counted self.new) (counted self.old) }
+    {
+        let name = names.get(note.name as usize);
+        let first = words.get(note.first as usize);
+        match note.second {
+            Some(second) => self.lower_two(name, first, words.get(second as usize)),
+            None => self.lower_one(name, first),
+        }
+    }
+
+    /// Takes one from the counts of a name with two words.
+    fn lower_two(&mut self, name: &str, first: &str, second: &str)
+        requires { AreInside self.old }
+        ensures inside { AreInside self.new }
+        ensures taken { IsWithin (two_counted name.now first.now second.now) (counted self.old) → IsSum (two_counted name.now first.now second.now) (counted self.new) (counted self.old) }
+    {
+        self.names.len();
+        self.words.len();
+        self.rows.len();
+        match self.names.find(name) {
+            Some(name) => match self.words.find(first) {
+                Some(first) => match self.words.find(second) {
+                    Some(second) => self.lower_numbers(name, first, second),
+                    None => {}
+                },
+                None => {}
+            },
+            None => {}
+        }
+    }
+
+    /// Takes one from the counts of a name with two words, by their numbers.
+    fn lower_numbers(&mut self, name: u32, first: u32, second: u32)
+        requires inside { AreInside self.old }
+        requires name { name < length self.old.names }
+        requires first { first < length self.old.words }
+        requires second { second < length self.old.words }
+        ensures inside { AreInside self.new }
+        ensures taken { IsWithin (two_counted (text_at self.old.names name) (text_at self.old.words first) (text_at self.old.words second)) (counted self.old)
+            → IsSum (two_counted (text_at self.old.names name) (text_at self.old.words first) (text_at self.old.words second)) (counted self.new) (counted self.old) }
+    {
+        lower_row(
+            &mut self.both,
+            &self.rows,
             &self.names,
             &self.words,
-            &others.rows,
-            others,
+            name,
+            first,
+            second,
         );
-        lower_names(
-            &mut self.columns,
-            &self.names,
-            &self.words,
-            &others.columns,
-            others,
-        );
-        lower_names(
-            &mut self.alone,
-            &self.names,
-            &self.words,
-            &others.alone,
-            others,
-        );
+        lower_name(&mut self.rows, &self.names, &self.words, name, first);
+        lower_name(&mut self.columns, &self.names, &self.words, name, second);
+    }
+
+    /// Takes one from the count of a unary name with a word.
+    fn lower_one(&mut self, name: &str, word: &str)
+        requires { AreInside self.old }
+        ensures inside { AreInside self.new }
+        ensures taken { IsWithin (one_counted name.now word.now) (counted self.old) → IsSum (one_counted name.now word.now) (counted self.new) (counted self.old) }
+    {
+        match self.names.find(name) {
+            Some(name) => match self.words.find(word) {
+                Some(word) => { lower_name(&mut self.alone, &self.names, &self.words, name, word) }
+                None => {}
+            },
+            None => {}
+        }
     }
 }
 
-/// Takes away counts of names with words.
-fn lower_names(tally: &mut Tally, names: &Names, words: &Names, other: &Tally, others: &Tables)
+/// Takes one from the count of a name with a word.
+fn lower_name(tally: &mut Tally, names: &Names, words: &Names, name: u32, word: u32)
     requires below { HasKeysBelow (length words.now) (length names.now) tally.old }
-    requires other { HasKeysBelow (length others.now.words) (length others.now.names) other.now }
+    requires name { name < length names.now }
+    requires word { word < length words.now }
     ensures keys { keys_of tally.new ≡ keys_of tally.old }
-    ensures taken { CountNoMore (λ key. is_two key.0 key.1) (by_name others.now.names others.now.words other.now) (by_name names.now words.now tally.old)
-        → AddUp (by_name others.now.names others.now.words other.now) (by_name names.now words.now tally.new) (by_name names.now words.now tally.old) }
-{
-    for k in 0..other.len() {
-        let ((word, name), count) = other.get(k);
-        let name = others.names.get(name as usize);
-        let word = others.words.get(word as usize);
-        lower_name(tally, names, words, name, word, count);
-    }
-}
-
-/// Takes so much from the count of a name with a word.
-fn lower_name(tally: &mut Tally, names: &Names, words: &Names, name: &Value, word: &Value, by: u64)
-    requires { HasKeysBelow (length words.now) (length names.now) tally.old }
-    ensures keys { keys_of tally.new ≡ keys_of tally.old }
-    ensures lowered { by ≤ total (is_two name.now word.now) (by_name names.now words.now tally.old) → IsLowered (name.now, word.now) by (by_name names.now words.now tally.old) (by_name names.now words.now tally.new) }
+    ensures lowered { 1 ≤ total (is_two (text_at names.now name) (text_at words.now word)) (by_name names.now words.now tally.old)
+        → IsLowered (text_at names.now name, text_at words.now word) 1 (by_name names.now words.now tally.old) (by_name names.now words.now tally.new) }
 {
     names.len();
     words.len();
-    match names.find(name) {
-        Some(name) => match words.find(word) {
-            Some(word) => tally.lower_key(word, name, by),
-            None => {}
-        },
-        None => {}
-    }
+    tally.lower_key(word, name);
 }
 
-/// Takes away counts of rows with second words.
-fn lower_rows(both: &mut Tally, rows: &Tally, names: &Names, words: &Names, others: &Tables)
-    requires rows { HasKeysBelow (length words.now) (length names.now) rows.now }
-    requires below { HasKeysBelow (length rows.now) (length words.now) both.old }
-    requires others { AreInside others.now }
-    ensures keys { keys_of both.new ≡ keys_of both.old }
-    ensures taken { CountNoMore (λ key. is_three key.0 key.1 key.2) (by_row others.now.names others.now.words (keys_of others.now.rows) others.now.both) (by_row names.now words.now (keys_of rows.now) both.old)
-        → AddUp (by_row others.now.names others.now.words (keys_of others.now.rows) others.now.both) (by_row names.now words.now (keys_of rows.now) both.new) (by_row names.now words.now (keys_of rows.now) both.old) }
-{
-    for k in 0..others.both.len() {
-        let ((row, second), count) = others.both.get(k);
-        let ((first, name), _) = others.rows.get(row as usize);
-        let name = others.names.get(name as usize);
-        let first = others.words.get(first as usize);
-        let second = others.words.get(second as usize);
-        lower_row(both, rows, names, words, name, first, second, count);
-    }
-}
-
-/// Takes so much from the count of a name with two words.
+/// Takes one from the count of a name with two words.
 fn lower_row(
     both: &mut Tally,
     rows: &Tally,
     names: &Names,
     words: &Names,
-    name: &Value,
-    first: &Value,
-    second: &Value,
-    by: u64,
+    name: u32,
+    first: u32,
+    second: u32,
 )
     requires rows { HasKeysBelow (length words.now) (length names.now) rows.now }
     requires below { HasKeysBelow (length rows.now) (length words.now) both.old }
+    requires name { name < length names.now }
+    requires first { first < length words.now }
+    requires second { second < length words.now }
     ensures keys { keys_of both.new ≡ keys_of both.old }
-    ensures lowered { by ≤ total (is_three name.now first.now second.now) (by_row names.now words.now (keys_of rows.now) both.old)
-        → IsLowered (name.now, first.now, second.now) by (by_row names.now words.now (keys_of rows.now) both.old) (by_row names.now words.now (keys_of rows.now) both.new) }
+    ensures lowered { 1 ≤ total (is_three (text_at names.now name) (text_at words.now first) (text_at words.now second)) (by_row names.now words.now (keys_of rows.now) both.old)
+        → IsLowered (text_at names.now name, text_at words.now first, text_at words.now second) 1 (by_row names.now words.now (keys_of rows.now) both.old) (by_row names.now words.now (keys_of rows.now) both.new) }
 {
     names.len();
     words.len();
     rows.len();
-    match row_of(rows, names, words, name, first) {
-        Some(row) => match words.find(second) {
-            Some(second) => both.lower_key(row, second, by),
-            None => {}
-        },
+    match rows.find(first, name) {
+        Some(row) => both.lower_key(row, second),
         None => {}
     }
 }

@@ -6,7 +6,6 @@ ghost use Rattle.mt_counts.specs.Numbered.{IsNumberingOf, place_of};
 use super::counts::Counts;
 use super::tables::Tables;
 use super::tally::Tally;
-use mt_base::Value;
 use std::marker::Model;
 
 /// How often two words stand under a name.
@@ -67,7 +66,7 @@ impl<'a> Numbered<'a> {
     }
 
     /// The word with a number.
-    pub fn word(&self, number: usize) -> &Value
+    pub fn word(&self, number: usize) -> &str
         requires { number < length self.now.words }
         ensures { slice_get self.now.words number ≡ Some result.now }
     {

@@ -28,14 +28,12 @@ impl Counts {
     pub fn collocates(&self, alloc: Global, name: &str, word: &str) -> Result<List<Pair>, NoMemory>
         ensures { IfOk result (λ pairs. ListsOnce (IsPair self.now name.now word.now) pairs) }
     {
-        let name = Value::new(alloc, name)?;
-        let word = Value::new(alloc, word)?;
         match row_of(
             &self.tables.rows,
             &self.tables.names,
             &self.tables.words,
-            &name,
-            &word,
+            name,
+            word,
         ) {
             Some(row) => self.tables.pairs(alloc, row),
             None => Ok(List::new(alloc)),
@@ -48,8 +46,8 @@ pub(crate) fn row_of(
     rows: &Tally,
     names: &Names,
     words: &Names,
-    name: &Value,
-    word: &Value,
+    name: &str,
+    word: &str,
 ) -> Option<u32>
     requires below { HasKeysBelow (length words.now) (length names.now) rows.now }
     ensures found { IfSome result (λ row. row < length rows.now) }
@@ -100,7 +98,7 @@ impl Tables {
         for place in places {
             let ((_, second), both) = self.both.get(*place as usize);
             let right = self.columns.count_of(second, name);
-            let word = self.words.get(second as usize).copy(alloc)?;
+            let word = Value::new(alloc, self.words.get(second as usize))?;
             pairs.push(Pair { word, both, right })?;
         }
         Ok(())

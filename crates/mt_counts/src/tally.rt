@@ -1,9 +1,10 @@
 //! Counts by pairs of numbers.
 
-ghost use Rattle.std.specs.Prelude.{◌≡◌, ℕ, ◌+◌, ◌-◌, ◌^◌, ◌<◌, ◌≤◌, [], length, slice_get, slice_index, Some, IfOk, IfSome, IfNone, IsFalse, IsTrue, OnErr, OnOk, vec_len, vec_capacity};
+ghost use Rattle.std.specs.Prelude.{◌≡◌, ℕ, List as Items, ◌+◌, ◌-◌, ◌^◌, ◌<◌, ◌≤◌, [], length, slice_get, slice_index, Some, IfOk, IfSome, IfNone, IsFalse, IsTrue, OnErr, OnOk, vec_len, vec_capacity};
+ghost use Rattle.std.specs.List.{All, AllZip};
 ghost use Rattle.std.specs.Map.{keys_of};
-ghost use Rattle.mt_counts.specs.Tallies.{AreAdded, AreBelow, AreMoved, AreOnce, Grows, HasKeysBelow, HasPlaced, HavePlaces, IsAt, IsCounted, IsPlaced, IsRaised, ListsOnce};
-ghost use Rattle.mt_counts.specs.Totals.{IsLowered, count_at, total_of_all};
+ghost use Rattle.mt_counts.specs.Tallies.{AreKeysBelow, AreOnce, Grows, HasKeysBelow, HasPlaced, IsAt, IsPlaced, IsRaised, ListsOnce, each_once};
+ghost use Rattle.mt_counts.specs.Totals.{AddUp, IsLowered, count_at, total_of_all};
 
 use super::hasher::PairHasher;
 use indexmap::IndexMap;
@@ -46,16 +47,6 @@ impl Tally {
             ends: Vec::new(alloc),
             sum: 0,
         }
-    }
-
-    /// Takes all pairs away, and keeps the memory for others.
-    pub(crate) fn clear(&mut self)
-        ensures { self.new ≡ [] }
-    {
-        self.counts.clear();
-        self.belows.clear();
-        self.ends.clear();
-        self.sum = 0;
     }
 
     /// How many pairs have a place.
@@ -114,19 +105,26 @@ impl Tally {
         ensures place { IfOk result (λ place. IsAt self.new (group, member) place) }
         ensures below { (groups members : ℕ) → HasKeysBelow groups members self.old → group < groups → member < members → HasKeysBelow groups members self.new }
     {
+        match self.find(group, member) {
+            Some(place) => Ok(place),
+            None => self.put(group, member),
+        }
+    }
+
+    /// Puts a new pair behind the others, with the count 0, and gives its place.
+    fn put(&mut self, group: u32, member: u32) -> Result<u32, NoMemory>
+        requires { (place : ℕ) → IsAt self.old (group, member) place → ⊥ }
+        ensures grows { Grows self.old self.new }
+        ensures place { IfOk result (λ place. IsAt self.new (group, member) place) }
+        ensures below { (groups members : ℕ) → HasKeysBelow groups members self.old → group < groups → member < members → HasKeysBelow groups members self.new }
+    {
         if self.counts.len() >= u32::MAX as usize {
-            return match self.find(group, member) {
-                Some(place) => Ok(place),
-                None => Err(NoMemory),
-            };
+            return Err(NoMemory);
         }
         make_place(&mut self.belows)?;
         make_room(&mut self.ends, group as usize)?;
         match self.counts.insert_full((group, member), 0) {
-            Ok((place, Some(count))) => {
-                self.counts[place] = count;
-                Ok(place as u32)
-            }
+            Ok((_, Some(_))) => unreachable!(),
             Ok((place, None)) => {
                 self.belows.push_reserved(self.ends[group as usize]);
                 self.ends[group as usize] = place as u32 + 1;
@@ -134,6 +132,25 @@ impl Tally {
             }
             Err(_) => Err(NoMemory),
         }
+    }
+
+    /// Lists the places of some pairs. A new pair has the count 0.
+    pub(crate) fn place_all(
+        &mut self,
+        keys: &[(u32, u32)],
+        places: &mut Vec<u32>,
+    ) -> Result<(), NoMemory>
+        ensures grows { Grows self.old self.new }
+        ensures places { OnOk result (AllZip (IsAt self.new) keys.now places.new.items) }
+        ensures below { (groups members : ℕ) → HasKeysBelow groups members self.old → AreKeysBelow groups members keys.now → HasKeysBelow groups members self.new }
+    {
+        places.clear();
+        for k in 0..keys.len() {
+            let (group, member) = keys[k];
+            let place = self.place(group, member)?;
+            places.push(place)?;
+        }
+        Ok(())
     }
 
     /// Adds to the count at a place. It takes no memory.
@@ -147,19 +164,16 @@ impl Tally {
         self.sum += by;
     }
 
-    /// Adds one to the count of a pair. All counts together are below 2^64; one more is refused as by want of memory.
-    pub(crate) fn count(&mut self, group: u32, member: u32) -> Result<u32, NoMemory>
-        ensures counted { IfOk result (λ place. IsCounted self.old (group, member) place self.new) }
-        ensures grown { OnErr result (Grows self.old self.new) }
-        ensures longer { length self.old ≤ length self.new }
-        ensures below { (g m : ℕ) → HasKeysBelow g m self.old → group < g → member < m → HasKeysBelow g m self.new }
+    /// Adds one to the count at each of some places. It takes no memory.
+    pub(crate) fn raise_each(&mut self, places: &[u32])
+        requires within { All (λ place. place < length self.old) places.now }
+        requires few { total_of_all self.old + length places.now < 2 ^ 64 }
+        ensures keys { keys_of self.new ≡ keys_of self.old }
+        ensures added { (keys : Items (ℕ × ℕ)) → AllZip (IsAt self.old) keys places.now → AddUp self.old (each_once keys) self.new }
     {
-        let place = self.place(group, member)?;
-        if self.sum == u64::MAX {
-            return Err(NoMemory);
+        for k in 0..places.len() {
+            self.raise(places[k] as usize, 1);
         }
-        self.raise(place as usize, 1);
-        Ok(place)
     }
 
     /// Takes from the count at a place. It takes no memory.
@@ -173,51 +187,20 @@ impl Tally {
         self.sum -= by;
     }
 
-    /// Takes so much from the count of a pair, and no more than it has. It takes no memory.
-    pub(crate) fn lower_key(&mut self, group: u32, member: u32, by: u64)
+    /// Takes one from the count of a pair that has some. It takes no memory.
+    pub(crate) fn lower_key(&mut self, group: u32, member: u32)
         ensures keys { keys_of self.new ≡ keys_of self.old }
-        ensures lowered { by ≤ count_at self.old (group, member) → IsLowered (group, member) by self.old self.new }
+        ensures lowered { 1 ≤ count_at self.old (group, member) → IsLowered (group, member) 1 self.old self.new }
     {
-        let count = self.count_of(group, member);
+        self.len();
         match self.find(group, member) {
-            Some(place) if by <= count => self.lower(place as usize, by),
-            Some(place) => self.lower(place as usize, count),
+            Some(place) => {
+                let (_, count) = self.get(place as usize);
+                if count > 0 {
+                    self.lower(place as usize, 1);
+                }
+            }
             None => {}
-        }
-    }
-
-    /// The place here of each pair of another tally, where its groups and members have these numbers.
-    pub(crate) fn places_of(
-        &mut self,
-        alloc: Global,
-        other: &Tally,
-        groups: &[u32],
-        members: &[u32],
-    ) -> Result<Vec<u32>, NoMemory>
-        requires { HasKeysBelow (length groups.now) (length members.now) other.now }
-        ensures grows { Grows self.old self.new }
-        ensures places { IfOk result (λ places. AreMoved other.now self.new groups.now members.now places.items) }
-        ensures below { (g m : ℕ) → HasKeysBelow g m self.old → AreBelow g groups.now → AreBelow m members.now → HasKeysBelow g m self.new }
-    {
-        let mut places = Vec::with_capacity(alloc, other.len())?;
-        for k in 0..other.len() {
-            let ((group, member), _) = other.get(k);
-            let place = self.place(groups[group as usize], members[member as usize])?;
-            places.push(place)?;
-        }
-        Ok(places)
-    }
-
-    /// Adds each count of another tally to the one at its place here. It takes no memory.
-    pub(crate) fn raise_all(&mut self, other: &Tally, places: &[u32])
-        requires places { HavePlaces other.now self.old places.now }
-        requires few { total_of_all self.old + total_of_all other.now < 2 ^ 64 }
-        ensures keys { keys_of self.new ≡ keys_of self.old }
-        ensures added { AreAdded self.old other.now places.now self.new }
-    {
-        for k in 0..other.len() {
-            let (_, count) = other.get(k);
-            self.raise(places[k] as usize, count);
         }
     }
 

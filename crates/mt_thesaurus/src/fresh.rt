@@ -21,7 +21,7 @@ pub(crate) fn words_of(alloc: Global, numbered: &Numbered) -> Result<IndexSet<Va
 {
     let mut words = IndexSet::new(alloc);
     for number in 0..numbered.words() {
-        words.insert(numbered.word(number).copy(alloc)?)?;
+        words.insert(Value::new(alloc, numbered.word(number))?)?;
     }
     Ok(words)
 }

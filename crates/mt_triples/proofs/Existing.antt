@@ -1,9 +1,9 @@
 -- Every text has a list of its instances.
-use Rattle.std.proofs.Common.{◌≡◌, ◌≢◌, ℕ, zero, suc, ◌+◌, ◌<◌, ◌≤◌, Bool, true, false, if◌then◌else◌, Option, Some, None, List, [], ◌∷◌, ◌++◌, length, get_or, slice_get, codes, refl, sym, ap, subst, ◌∙◌, arith, true≢false, ◌⊎◌, inl, inr, append_assoc, length-append}
+use Rattle.std.proofs.Common.{◌≡◌, ℕ, zero, suc, ◌+◌, ◌≤◌, Bool, true, false, if◌then◌else◌, Option, Some, None, List, [], ◌∷◌, ◌++◌, length, slice_get, codes, refl, sym, ap, subst, ◌∙◌, arith, true≢false, ◌⊎◌, inl, inr, append_assoc, length-append}
 use Rattle.std.specs.List.{Contains}
 use Rattle.std.specs.Str.{bytes_eq}
 use Rattle.std.specs.Cmp.Lexicographic.{bytes_decides}
-use Rattle.std.proofs.lemmas.Bool.{cases_eq, cases_lt}
+use Rattle.std.proofs.lemmas.Bool.{cases_eq}
 use Rattle.std.proofs.lemmas.List.Elements.{Contains-append_left, Contains-append_right, Contains-append_cases}
 use Rattle.mt_text_spec.specs.Registries.{Registry}
 use Rattle.mt_text_spec.specs.Texts.{Text, Row, unset}
@@ -12,12 +12,12 @@ use Rattle.mt_match_spec.specs.Values.{Images, value_at}
 use Rattle.mt_match_spec.specs.Labels.{IsSetTo}
 use Rattle.mt_match_spec.specs.Kept.{Keeps, Kept}
 use Rattle.mt_match_laws.specs.Laws.{HaveKept}
-use Rattle.mt_count_spec.specs.Instances.{Instance, AtTwo, AtOne, IsFilled, IsPair, Gives, GivesPlain, GivesDual, GivesTurned, GivesSymmetric, GivesBack, GivesTrinary, GivesUnary, HasInstance}
+use Rattle.mt_count_spec.specs.Instances.{Instance, AtTwo, AtOne, IsFilled, IsPair, Gives, GivesPlain, GivesDual, GivesTurned, GivesSymmetric, GivesBack, GivesTrinary, GivesUnary}
 use Rattle.mt_count_spec.specs.Counts.{EachOnce}
 use Rattle.mt_counts.specs.Totals.{total}
 use Rattle.mt_counts.specs.Counted.{Counted, IsSum}
 use Rattle.mt_triples.specs.CountsOf.{AreCountsOf, SumsAreCounts}
-use Rattle.mt_triples.specs.Tallied.{twos, ones, CountEach, AreInstances, InstancesAreCounted}
+use Rattle.mt_triples.specs.Tallied.{CountEach, AreInstances, InstancesAreCounted}
 use Rattle.mt_triples.proofs.Telling.{counts_none}
 use Rattle.mt_triples.proofs.Numbered.{head_there, later, either}
 

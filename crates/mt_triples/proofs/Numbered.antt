@@ -1,5 +1,5 @@
 -- The numbers of the instances in a list that pass a test.
-use Rattle.std.proofs.Common.{◌≡◌, ℕ, zero, suc, ◌+◌, ◌<◌, Bool, true, false, ◌&&◌, if◌then◌else◌, Option, Some, None, List, [], ◌∷◌, length, get_or, refl, sym, ap, subst, ◌∙◌, arith, true≢false, ◌⊎◌, inl, inr}
+use Rattle.std.proofs.Common.{◌≡◌, ℕ, zero, suc, ◌+◌, Bool, true, false, ◌&&◌, if◌then◌else◌, Some, None, List, [], ◌∷◌, length, refl, sym, ap, subst, ◌∙◌, arith, true≢false, ◌⊎◌, inl, inr}
 use Rattle.std.specs.List.{Contains}
 use Rattle.std.specs.Str.{bytes_eq}
 use Rattle.std.specs.Cmp.Lexicographic.{bytes_decides}
@@ -8,9 +8,8 @@ use Rattle.mt_text_spec.specs.Registries.{Registry}
 use Rattle.mt_text_spec.specs.Texts.{Text}
 use Rattle.mt_text_spec.specs.Queries.{Grammar}
 use Rattle.mt_match_spec.specs.Values.{Images, value_at}
-use Rattle.mt_count_spec.specs.Instances.{Instance, AtTwo, AtOne, HasInstance}
-use Rattle.mt_count_spec.specs.Counts.{EachOnce, Number, IsAsked, CountsTwo, IsTwo, CountsOne, IsOne, IsCounted, Summed, OverNone, OverOne}
-use Rattle.mt_counts.specs.Totals.{total}
+use Rattle.mt_count_spec.specs.Instances.{Instance, AtTwo, AtOne}
+use Rattle.mt_count_spec.specs.Counts.{EachOnce, Number, CountsTwo, IsTwo, CountsOne, IsOne, IsCounted, Summed, OverNone, OverOne}
 use Rattle.mt_counts.specs.Counted.{Counted, f, f_first, f_second, f1, is_three, is_two}
 use Rattle.mt_triples.specs.CountsOf.{AreCountsOf}
 use Rattle.mt_triples.specs.Tallied.{twos, ones, CountEach, AreInstances}

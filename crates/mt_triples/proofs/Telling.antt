@@ -1,19 +1,18 @@
 -- What tables tell is so of the texts whose counts they are.
-use Rattle.std.proofs.Common.{◌≡◌, ℕ, ◌+◌, ◌<◌, Bool, true, false, Option, Some, None, List, [], ◌++◌, refl, sym, subst, arith, Result, Ok, Err, OnOk, OnErr, IfOk}
-use Rattle.std.specs.List.{Contains}
+use Rattle.std.proofs.Common.{◌≡◌, ℕ, ◌<◌, Bool, true, false, Some, None, List, [], sym, subst, Result, Ok, Err, OnOk, OnErr, IfOk}
 use Rattle.mt_text_spec.specs.Registries.{Registry}
 use Rattle.mt_text_spec.specs.Texts.{Text}
 use Rattle.mt_text_spec.specs.Queries.{Grammar}
 use Rattle.mt_match_spec.specs.Values.{Images}
-use Rattle.mt_count_spec.specs.Counts.{IsF, IsF1, Summed, OverNone}
+use Rattle.mt_count_spec.specs.Counts.{IsF, IsF1, OverNone}
 use Rattle.mt_count_laws.specs.Laws.{OneCount, OneUnaryCount}
 use Rattle.mt_counts.specs.Tallies.{ListsOnce}
 use Rattle.mt_counts.specs.Counted.{Counted, f, f_first, f_second, f1}
-use Rattle.mt_counts.specs.Listed.{IsHead, head_count, IsPair, StandsFirst, AreFirstWords}
+use Rattle.mt_counts.specs.Listed.{IsHead, head_count, IsPair, AreFirstWords}
 use Rattle.mt_counts.specs.declared.listing.Head.{Head}
 use Rattle.mt_counts.specs.declared.pairs.Pair.{Pair}
 use Rattle.mt_triples.specs.CountsOf.{AreCountsOf}
-use Rattle.mt_triples.specs.Told.{IsHeadCount, IsHeadIn, IsPairIn, StandsFirstIn, AreFirstWordsIn}
+use Rattle.mt_triples.specs.Told.{IsHeadCount, IsHeadIn, IsPairIn, AreFirstWordsIn}
 
 -- ---- results
 

@@ -15,7 +15,7 @@ use super::{
 };
 use mt_base::{List, NoMemory, Value};
 use mt_count_laws::{one_count, one_unary_count};
-use mt_counts::{Counts, Head, Numbered, Pair};
+use mt_counts::{Counts, Head, Noted, Numbered, Pair};
 use std::alloc::Global;
 use std::marker::Model;
 
@@ -43,33 +43,26 @@ impl Triples {
         }
     }
 
-    /// These counts. It takes no memory.
-    pub fn of_counts(counts: Counts) -> Self
-        ensures { result ≡ counts }
-    {
-        Triples { counts }
-    }
-
-    /// Adds the counts over other texts, at the cost of what those have. Out of memory, or where all counts together would be 2^64 or more, each count is as it was.
-    pub fn add(&mut self, alloc: Global, other: &Triples) -> Result<(), NoMemory>
+    /// Adds what is noted over other texts, at the cost of what that is. Out of memory, or where all counts together would be 2^64 or more, each count is as it was.
+    pub fn add(&mut self, alloc: Global, text: &Noted) -> Result<(), NoMemory>
         ensures ok { (images : Images) (registry : registries.Registry) (grammar : queries.Grammar) (corpus others : Items texts.Text) → AreCountsOf images registry grammar corpus self.old
-            → AreCountsOf images registry grammar others other.now → OnOk result (AreCountsOf images registry grammar (corpus ++ others) self.new) }
+            → AreCountsOf images registry grammar others text.now.counted → OnOk result (AreCountsOf images registry grammar (corpus ++ others) self.new) }
         ensures err { (images : Images) (registry : registries.Registry) (grammar : queries.Grammar) (corpus : Items texts.Text) → AreCountsOf images registry grammar corpus self.old
             → OnErr result (AreCountsOf images registry grammar corpus self.new) }
     {
         sums_are_counts();
         same_count_same();
-        self.counts.add(alloc, &other.counts)
+        self.counts.add(alloc, text)
     }
 
-    /// Takes away the counts over some of the texts, wherever these stand among them, at the cost of what they have. It takes no memory.
-    pub fn subtract(&mut self, other: &Triples)
+    /// Takes away what is noted over some of the texts, wherever these stand among them, at the cost of what that is. It takes no memory.
+    pub fn subtract(&mut self, text: &Noted)
         ensures { (images : Images) (registry : registries.Registry) (grammar : queries.Grammar) (before texts behind : Items texts.Text)
-            → AreCountsOf images registry grammar (before ++ texts ++ behind) self.old → AreCountsOf images registry grammar texts other.now → AreCountsOf images registry grammar (before ++ behind) self.new }
+            → AreCountsOf images registry grammar (before ++ texts ++ behind) self.old → AreCountsOf images registry grammar texts text.now.counted → AreCountsOf images registry grammar (before ++ behind) self.new }
     {
         parts_are_within();
         rest_is_left();
-        self.counts.subtract(&other.counts);
+        self.counts.subtract(text);
     }
 
     /// The words that stand in the texts as first ones, ascending by their bytes, each once.
@@ -98,13 +91,6 @@ impl Triples {
     {
         one_count();
         self.counts.collocates(alloc, name, word)
-    }
-
-    /// The counts, so that others may take their memory. It takes no memory.
-    pub fn into_counts(self) -> Counts
-        ensures { result ≡ self }
-    {
-        self.counts
     }
 
     /// The counts, whatever they are of. It takes no memory.

@@ -1,11 +1,16 @@
-use Rattle.mt_counts.proofs.Taking.{left_inside, left_sum}
+use Rattle.std.proofs.Common.{arith}
+use Rattle.mt_counts.specs.Tables.{counted}
+use Rattle.mt_counts.proofs.Joined.{taking_none, taking_next, taking_whole}
 use Rattle.mt_counts.proofs.tables.Tables.lower_all.Goals as goal
 
-pub returns-clause-inside : goal.returns-clause-inside
-returns-clause-inside c =
-    left_inside c.args.self.now c.lower_names.new.tally c.lower_rows.new.both c.lower_names-2.new.tally c.lower_names-3.new.tally c.lower_names.ensures.keys c.lower_rows.ensures.keys c.lower_names-2.ensures.keys c.lower_names-3.ensures.keys c.requires.inside
+pub loop-k-init : goal.loop-k-init
+loop-k-init c = record { inside = c.requires.inside; taken = λ within. taking_none c.args.names.now c.args.words.now c.args.notes.now (counted c.args.self.now) }
+
+pub loop-k-preserved : goal.loop-k-preserved
+loop-k-preserved c = record {
+  inside = c.lower_note.ensures.inside;
+  taken = taking_next c.args.names.now c.args.words.now c.args.notes.now c.loop-k.k _ (counted c.args.self.now) (counted c.loop-k.self) (counted c.lower_note.new.self) c.loop-k-test.true c.loop-k.invariant.taken c.lower_note.ensures.taken;
+}
 
 pub returns-clause-taken : goal.returns-clause-taken
-returns-clause-taken c =
-    left_sum c.args.self.now c.lower_names.new.tally c.lower_rows.new.both c.lower_names-2.new.tally c.lower_names-3.new.tally c.lower_names.ensures.keys c.args.others.now
-    c.lower_rows.ensures.taken c.lower_names.ensures.taken c.lower_names-2.ensures.taken c.lower_names-3.ensures.taken
+returns-clause-taken c = taking_whole c.args.names.now c.args.words.now c.args.notes.now c.loop-k.k (counted c.args.self.now) (counted c.loop-k.self) (omega arith) c.loop-k.invariant.taken

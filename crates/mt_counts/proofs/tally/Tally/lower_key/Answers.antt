@@ -7,23 +7,21 @@ use Rattle.mt_counts.proofs.tally.Tally.lower_key.Goals as goal
 
 pub lower-requires-clause-few : goal.lower-requires-clause-few
 lower-requires-clause-few c = λ key count e.
-    let is = count_found c.args.self.now (c.args.group, c.args.member) c.in-Some.place (key, count) c.count_of-count.ensures.once c.in-Some.ensures.found e in
-    omega (arith, is, c.count_of-count.ensures.count, c.if-by-count.true)
+    let is = count_found c.args.self.now (c.args.group, c.args.member) c.in-Some.place (key, count) c.len.ensures.once c.in-Some.ensures.found e in
+    let some = count_found c.args.self.now (c.args.group, c.args.member) c.in-Some.place c.get-count.result c.len.ensures.once c.in-Some.ensures.found c.get-count.ensures in
+    omega (arith, is, some, c.if-count-gt0.true)
 
 pub lower-requires-clause-within : goal.lower-requires-clause-within
 lower-requires-clause-within c = let at = c.in-Some.ensures.found in slice_get_within c.args.self.now c.in-Some.place ((c.args.group, c.args.member), at.count) at.there
 
-pub lower-requires-in-Some-2-clause-few : goal.lower-requires-in-Some-2-clause-few
-lower-requires-in-Some-2-clause-few c = λ key count e.
-    let is = count_found c.args.self.now (c.args.group, c.args.member) c.in-Some.place (key, count) c.count_of-count.ensures.once c.in-Some.ensures.found e in
-    omega (arith, is, c.count_of-count.ensures.count)
+pub returns-then-count-gt0-clause-lowered : goal.returns-then-count-gt0-clause-lowered
+returns-then-count-gt0-clause-lowered c = λ h. lowered_there c.args.self.now c.lower.new.self (c.args.group, c.args.member) c.in-Some.place 1 c.in-Some.ensures.found c.lower.ensures
 
-pub lower-requires-in-Some-2-clause-within : goal.lower-requires-in-Some-2-clause-within
-lower-requires-in-Some-2-clause-within c = let at = c.in-Some.ensures.found in slice_get_within c.args.self.now c.in-Some.place ((c.args.group, c.args.member), at.count) at.there
-
-pub returns-in-Some-clause-lowered : goal.returns-in-Some-clause-lowered
-returns-in-Some-clause-lowered c = λ h. lowered_there c.args.self.now c.lower.new.self (c.args.group, c.args.member) c.in-Some.place c.args.by c.in-Some.ensures.found c.lower.ensures
+pub returns-else-count-gt0-clause-lowered : goal.returns-else-count-gt0-clause-lowered
+returns-else-count-gt0-clause-lowered c = λ h.
+    let some = count_found c.args.self.now (c.args.group, c.args.member) c.in-Some.place c.get-count.result c.len.ensures.once c.in-Some.ensures.found c.get-count.ensures in
+    absurd (omega (arith, h, some, c.if-count-gt0.false))
 
 pub returns-in-None-clause-lowered : goal.returns-in-None-clause-lowered
-returns-in-None-clause-lowered c = λ h. lowered_none c.args.self.now (c.args.group, c.args.member) c.args.by (count_at c.args.self.now (c.args.group, c.args.member))
+returns-in-None-clause-lowered c = λ h. lowered_none c.args.self.now (c.args.group, c.args.member) 1 (count_at c.args.self.now (c.args.group, c.args.member))
     (count_nowhere c.args.self.now (c.args.group, c.args.member) c.in-None.ensures.none) h

@@ -1,4 +1,4 @@
-use Rattle.std.proofs.Common.{List, ℕ, IfOk, subst}
+use Rattle.std.proofs.Common.{IfOk, subst}
 use Rattle.mt_counts.specs.Counted.{Counted}
 use Rattle.mt_counts.specs.Listed.{AreFirstWords}
 use Rattle.mt_triples.specs.Told.{AreFirstWordsIn}
