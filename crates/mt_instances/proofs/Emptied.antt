@@ -31,8 +31,8 @@ none_collected lexicon numbers gathered counter no_places none unfilled unnamed 
     fills_are = subst (λ (fills : List ((ℕ × ℕ) × ℕ)). AreFills gathered.instances.names lexicon fills) (sym unfilled) (no_fills gathered.instances.names lexicon);
   };
   ready = record {
-    names_are = subst (λ (known : List (Option ℕ)). AreNumbers gathered.instances.names counter.counting.names known) (sym unnamed) (no_numbers gathered.instances.names counter.counting.names);
-    words_are = subst (λ (known : List (Option ℕ)). AreNumbers lexicon counter.counting.words known) (sym unworded) (no_numbers lexicon counter.counting.words);
+    names_are = subst (λ (known : List (Option ℕ)). AreNumbers gathered.instances.names counter.noted.names known) (sym unnamed) (no_numbers gathered.instances.names counter.noted.names);
+    words_are = subst (λ (known : List (Option ℕ)). AreNumbers lexicon counter.noted.words known) (sym unworded) (no_numbers lexicon counter.noted.words);
     names_within = subst (λ (known : List (Option ℕ)). AreWithin (length gathered.instances.names) known) (sym unnamed) (none_within (length gathered.instances.names));
   };
 }

@@ -16,6 +16,6 @@ pub record AddsEach (values : ℕ → List ℕ) (all : List Instance) (old new :
 
 -- the numbers that the counts have for names and for values are those of the same texts
 pub record AreReady (names lexicon : List (List ℕ)) (counter : Counter) : Type 0 where
-  pub names_are : AreNumbers names counter.counting.names counter.names
-  pub words_are : AreNumbers lexicon counter.counting.words counter.words
+  pub names_are : AreNumbers names counter.noted.names counter.names
+  pub words_are : AreNumbers lexicon counter.noted.words counter.words
   pub names_within : AreWithin (length names) counter.names

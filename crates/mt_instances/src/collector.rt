@@ -1,6 +1,7 @@
 //! The counts of a sketch grammar over texts, one text after another.
 
 ghost use Rattle.std.specs.Prelude.{◌≡◌, [], ◌∷◌, ◌++◌, ◌<◌, length, OnOk};
+ghost use Rattle.std.specs.List.{All};
 ghost use Rattle.mt_text_spec.specs.Registries as registries;
 ghost use Rattle.mt_text_spec.specs.Texts as texts;
 ghost use Rattle.mt_match_spec.specs.Values.{Images};
@@ -15,7 +16,7 @@ use crate::instances::Instances;
 use crate::room::Room;
 use crate::words::Words;
 use mt_base::NoMemory;
-use mt_counts::{Counting, Counts};
+use mt_counts::Noted;
 use mt_grammar::Relation;
 use mt_lexicon::Lexicon;
 use mt_rows::RowList;
@@ -39,7 +40,7 @@ impl<'a> Model for Collector<'a> {
 
     ghost Value = { Collected };
 
-    ghost view = { λ c. record { lexicon = c.lexicon.now; numbers = c.numbers.items; given = c.gathered.instances.given; counted = c.counter.counting.counted } };
+    ghost view = { λ c. record { lexicon = c.lexicon.now; numbers = c.numbers.items; given = c.gathered.instances.given; counted = c.counter.noted.counted } };
 
     ghost invariant = { λ c. AreCollected c.lexicon.now c.numbers.items c.gathered c.counter };
 }
@@ -61,22 +62,24 @@ impl<'a> Collector<'a> {
         }
     }
 
-    /// The same, in the memory of a text and of counts before. What they had goes.
-    pub fn reusing(alloc: Global, lexicon: &'a Lexicon, room: Room, counts: Counts) -> Self
+    /// The same, in the memory of texts before. What was counted of them goes.
+    pub fn reusing(alloc: Global, lexicon: &'a Lexicon, room: Room) -> Self
         ensures { result ≡ record { lexicon = lexicon.now; numbers = []; given = []; counted = record { both = []; first = []; second = []; alone = [] } } }
     {
-        let mut room = room;
-        room.clear();
+        let Room {
+            mut numbers,
+            mut gathered,
+            mut counter,
+        } = room;
+        numbers.clear();
+        gathered.clear();
+        counter.clear();
         Collector {
             alloc,
             lexicon,
-            numbers: room.numbers,
-            gathered: room.gathered,
-            counter: Counter {
-                names: room.names,
-                words: room.words,
-                counting: Counting::reusing(alloc, counts),
-            },
+            numbers,
+            gathered,
+            counter,
         }
     }
 
@@ -86,8 +89,7 @@ impl<'a> Collector<'a> {
     {
         self.lexicon = lexicon;
         self.numbers.clear();
-        self.gathered.instances.clear();
-        self.gathered.fills.clear();
+        self.gathered.clear();
         self.counter.words.clear();
     }
 
@@ -141,29 +143,21 @@ impl<'a> Collector<'a> {
         Ok(())
     }
 
-    /// The counts of the texts that are finished, and the memory of a text.
-    pub fn into_parts(self) -> (Counts, Room)
-        ensures { result.0 ≡ self.entry.counted }
+    /// What is counted of the texts that are finished, as it is noted.
+    pub fn noted(&self) -> &Noted
+        ensures { result.now.counted ≡ self.now.counted }
     {
-        let Counter {
-            names,
-            words,
-            counting,
-        } = self.counter;
-        let room = Room {
-            numbers: self.numbers,
-            gathered: self.gathered,
-            names,
-            words,
-        };
-        (counting.finish(), room)
+        &self.counter.noted
     }
 
-    /// The counts of the texts that are finished.
-    pub fn finish(self) -> Counts
+    /// The memory, with what is counted of the texts that are finished.
+    pub fn into_room(self) -> Room
         ensures { result ≡ self.entry.counted }
     {
-        let counter = self.counter;
-        counter.counting.finish()
+        Room {
+            numbers: self.numbers,
+            gathered: self.gathered,
+            counter: self.counter,
+        }
     }
 }

@@ -13,16 +13,16 @@ use crate::entry::Entry;
 use crate::instances::Instances;
 use crate::numbers::Numbers;
 use crate::words::Words;
-use mt_base::{NoMemory, Value};
-use mt_counts::Counting;
+use mt_base::NoMemory;
+use mt_counts::Noted;
 use std::alloc::Global;
 
-/// Counts that are made, and what numbers they have for the names of instances and for the values of a lexicon.
+/// What is noted, and what numbers that has for the names of instances and for the values of a lexicon.
 #[derive(Drop)]
 pub(crate) struct Counter {
     pub(crate) names: Numbers,
     pub(crate) words: Numbers,
-    pub(crate) counting: Counting,
+    pub(crate) noted: Noted,
 }
 
 impl Counter {
@@ -30,13 +30,24 @@ impl Counter {
     pub(crate) fn new(alloc: Global) -> Self
         ensures names { result.names ≡ [] }
         ensures words { result.words ≡ [] }
-        ensures counted { result.counting.counted ≡ record { both = []; first = []; second = []; alone = [] } }
+        ensures counted { result.noted.counted ≡ record { both = []; first = []; second = []; alone = [] } }
     {
         Counter {
             names: Numbers::new(alloc),
             words: Numbers::new(alloc),
-            counting: Counting::new(alloc),
+            noted: Noted::new(alloc),
         }
+    }
+
+    /// Takes all away, and keeps the memory for others.
+    pub(crate) fn clear(&mut self)
+        ensures names { self.new.names ≡ [] }
+        ensures words { self.new.words ≡ [] }
+        ensures noted { self.new.noted ≡ record { names = []; words = []; counted = record { both = []; first = []; second = []; alone = [] } } }
+    {
+        self.names.clear();
+        self.words.clear();
+        self.noted.clear();
     }
 }
 
@@ -52,33 +63,33 @@ pub(crate) fn count_all(
     ensures names { instances.new.names ≡ instances.old.names }
     ensures given { instances.new.given ≡ [] }
     ensures ready { AreReady instances.new.names words.now.lexicon.now counter.new }
-    ensures ok { OnOk result (AddsEach (value_in words.now.lexicon.now words.now.numbers.now) instances.old.given counter.old.counting.counted counter.new.counting.counted) }
+    ensures ok { OnOk result (AddsEach (value_in words.now.lexicon.now words.now.numbers.now) instances.old.given counter.old.noted.counted counter.new.noted.counted) }
 {
-    let mut entries = instances.take(words.alloc);
-    count(words, instances, counter, entries.as_mut_slice())?;
-    instances.give_room(entries);
+    let entries = instances.take(words.alloc);
+    let room = count(words, instances, counter, entries)?;
+    instances.give_room(room);
     Ok(())
 }
 
-/// Counts the instance of each entry once more. What is in the list afterwards is unknown.
+/// Counts the instance of each entry once more. Returns a list for whoever wants its memory.
 fn count(
     words: &Words,
     instances: &Instances,
     counter: &mut Counter,
-    entries: &mut [Entry],
-) -> Result<(), NoMemory>
+    entries: Vec<Entry>,
+) -> Result<Vec<Entry>, NoMemory>
     requires valued { All (λ number. number < length words.now.lexicon.now) words.now.numbers.now }
-    requires entries { All (IsEntryIn instances.now.names (length words.now.numbers.now)) entries.old }
+    requires entries { All (IsEntryIn instances.now.names (length words.now.numbers.now)) entries.items }
     requires ready { AreReady instances.now.names words.now.lexicon.now counter.old }
     ensures ready { AreReady instances.now.names words.now.lexicon.now counter.new }
-    ensures ok { OnOk result (AddsEach (value_in words.now.lexicon.now words.now.numbers.now) (map (instance_of instances.now.names) entries.old) counter.old.counting.counted counter.new.counting.counted) }
+    ensures ok { OnOk result (AddsEach (value_in words.now.lexicon.now words.now.numbers.now) (map (instance_of instances.now.names) entries.items) counter.old.noted.counted counter.new.noted.counted) }
 {
-    number_all(words, instances, counter, entries)?;
-    counter.counting.add_all(entries)?;
-    Ok(())
+    let mut notes = entries;
+    number_all(words, instances, counter, notes.as_mut_slice())?;
+    counter.noted.put(notes)
 }
 
-/// Puts in the place of each entry's numbers those that its name and the values at its places have in the counts.
+/// Puts in the place of each entry's numbers those that its name and the values at its places have where they are noted.
 fn number_all(
     words: &Words,
     instances: &Instances,
@@ -89,8 +100,8 @@ fn number_all(
     requires entries { All (IsEntryIn instances.now.names (length words.now.numbers.now)) entries.old }
     requires ready { AreReady instances.now.names words.now.lexicon.now counter.old }
     ensures ready { AreReady instances.now.names words.now.lexicon.now counter.new }
-    ensures learns { Learns counter.old.counting counter.new.counting }
-    ensures numbered { OnOk result (AllZip (IsNumbered counter.new.counting instances.now.names (value_in words.now.lexicon.now words.now.numbers.now)) entries.old entries.new) }
+    ensures learns { Learns counter.old.noted counter.new.noted }
+    ensures numbered { OnOk result (AllZip (IsNumbered counter.new.noted instances.now.names (value_in words.now.lexicon.now words.now.numbers.now)) entries.old entries.new) }
 {
     for k in 0..entries.len() {
         let note = numbered(words, instances, counter, entries[k])?;
@@ -110,8 +121,8 @@ fn numbered(
     requires entry { IsEntryIn instances.now.names (length words.now.numbers.now) entry }
     requires ready { AreReady instances.now.names words.now.lexicon.now counter.old }
     ensures ready { AreReady instances.now.names words.now.lexicon.now counter.new }
-    ensures learns { Learns counter.old.counting counter.new.counting }
-    ensures numbered { IfOk result (λ note. IsNumbered counter.new.counting instances.now.names (value_in words.now.lexicon.now words.now.numbers.now) entry note) }
+    ensures learns { Learns counter.old.noted counter.new.noted }
+    ensures numbered { IfOk result (λ note. IsNumbered counter.new.noted instances.now.names (value_in words.now.lexicon.now words.now.numbers.now) entry note) }
 {
     let name = name_of(words, instances, counter, entry.name)?;
     let first = word_at(words, instances, counter, entry.first)?;
@@ -133,13 +144,13 @@ fn name_of(
     requires number { number < length instances.now.names }
     requires ready { AreReady instances.now.names words.now.lexicon.now counter.old }
     ensures ready { AreReady instances.now.names words.now.lexicon.now counter.new }
-    ensures learns { Learns counter.old.counting counter.new.counting }
-    ensures name { IfOk result (λ there. slice_get counter.new.counting.names there ≡ Some (text_at instances.now.names number)) }
+    ensures learns { Learns counter.old.noted counter.new.noted }
+    ensures name { IfOk result (λ there. slice_get counter.new.noted.names there ≡ Some (text_at instances.now.names number)) }
 {
     if let Some(there) = counter.names.get(number) {
         return Ok(there);
     }
-    let there = counter.counting.name(instances.name(number))?;
+    let there = counter.noted.name(instances.name(number).as_str())?;
     counter.names.set(number, there)?;
     Ok(there)
 }
@@ -155,15 +166,14 @@ fn word_at(
     requires valued { All (λ number. number < length words.now.lexicon.now) words.now.numbers.now }
     requires ready { AreReady instances.now.names words.now.lexicon.now counter.old }
     ensures ready { AreReady instances.now.names words.now.lexicon.now counter.new }
-    ensures learns { Learns counter.old.counting counter.new.counting }
-    ensures word { IfOk result (λ there. IsWord counter.new.counting (value_in words.now.lexicon.now words.now.numbers.now) place there) }
+    ensures learns { Learns counter.old.noted counter.new.noted }
+    ensures word { IfOk result (λ there. IsWord counter.new.noted (value_in words.now.lexicon.now words.now.numbers.now) place there) }
 {
     let number = words.number(place);
     if let Some(there) = counter.words.get(number) {
         return Ok(there);
     }
-    let value = Value::new(words.alloc, words.value(number))?;
-    let there = counter.counting.own_word(value)?;
+    let there = counter.noted.word(words.value(number))?;
     counter.words.set(number, there)?;
     Ok(there)
 }
@@ -179,8 +189,8 @@ fn second_at(
     requires valued { All (λ number. number < length words.now.lexicon.now) words.now.numbers.now }
     requires ready { AreReady instances.now.names words.now.lexicon.now counter.old }
     ensures ready { AreReady instances.now.names words.now.lexicon.now counter.new }
-    ensures learns { Learns counter.old.counting counter.new.counting }
-    ensures word { IfOk result (λ there. GoTogether (IsWord counter.new.counting (value_in words.now.lexicon.now words.now.numbers.now)) place there) }
+    ensures learns { Learns counter.old.noted counter.new.noted }
+    ensures word { IfOk result (λ there. GoTogether (IsWord counter.new.noted (value_in words.now.lexicon.now words.now.numbers.now)) place there) }
 {
     match place {
         Some(place) => {

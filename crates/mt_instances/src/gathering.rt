@@ -1,6 +1,6 @@
 //! The instances that the rows of a text give.
 
-ghost use Rattle.std.specs.Prelude.{◌≡◌, ℕ, List as Items, ◌<◌, length, slice_get, Some, MatchOption, IfOk, OnOk};
+ghost use Rattle.std.specs.Prelude.{◌≡◌, ℕ, List as Items, [], ◌<◌, length, slice_get, Some, MatchOption, IfOk, OnOk};
 ghost use Rattle.mt_text_spec.specs.Registries as registries;
 ghost use Rattle.mt_text_spec.specs.Texts as texts;
 ghost use Rattle.mt_text_spec.specs.Queries as queries;
@@ -33,6 +33,18 @@ pub(crate) struct Heading {
 pub(crate) struct Gathered {
     pub(crate) instances: Instances,
     pub(crate) fills: Fills,
+}
+
+impl Gathered {
+    /// Takes away what is known of the text, and keeps the memory, and the names with their numbers.
+    pub(crate) fn clear(&mut self)
+        ensures names { self.new.instances.names ≡ self.old.instances.names }
+        ensures given { self.new.instances.given ≡ [] }
+        ensures fills { self.new.fills ≡ [] }
+    {
+        self.instances.clear();
+        self.fills.clear();
+    }
 }
 
 /// Adds the instances that rows of a query of the relation give. Where there are no rows, its names get no numbers.

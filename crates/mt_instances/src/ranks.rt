@@ -75,10 +75,15 @@ impl Ranks {
         Ok(true)
     }
 
-    /// The names of these entries have none, and the memory is kept for others. It costs by how many the entries are.
+    /// The names of these entries have none, and the memory is kept for others. It costs by how many the entries are; where there are at least as many as ends, all ends
+    /// go at once.
     pub(crate) fn forget(&mut self, entries: &[Entry])
         ensures { All (λ entry. slice_index self.new entry.name ≡ 0) entries.now }
     {
+        if self.ends.len() <= entries.len() {
+            self.ends.clear();
+            return;
+        }
         for entry in entries {
             let name = entry.name as usize;
             if name < self.ends.len() {

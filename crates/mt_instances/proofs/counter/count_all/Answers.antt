@@ -1,6 +1,5 @@
 use Rattle.std.proofs.Common.{ℕ, List, length, map, subst, sym}
 use Rattle.std.specs.List.{All}
-use Rattle.mt_counts.specs.declared.note.Note.{Note}
 use Rattle.mt_count_spec.specs.Instances.{Instance}
 use Rattle.mt_instances.specs.Counting.{AddsEach}
 use Rattle.mt_instances.specs.Entries.{instance_of}
@@ -15,14 +14,13 @@ count-requires-clause-entries c =
     let old = c.args.instances.now in
     let entries = c.take-entries.result.items in
     let all = entries_in old.names places entries old.given c.take-entries.ensures.named c.take-entries.ensures.taken c.requires.lie in
-    subst (λ (xs : List Note). All (IsEntryIn c.take-entries.new.self.names places) xs) (sym c.as_mut_slice.ensures.value) (subst (λ (names : List (List ℕ)). All (IsEntryIn names places) entries) (sym c.take-entries.ensures.names) all)
+    subst (λ (names : List (List ℕ)). All (IsEntryIn names places) entries) (sym c.take-entries.ensures.names) all
 
 pub returns-clause-ok : goal.returns-clause-ok
 returns-clause-ok c =
     let values = value_in c.args.words.now.lexicon.now c.args.words.now.numbers.now in
     let old = c.args.instances.now in
-    let a = c.args.counter.now.counting.counted in
-    let b = c.count.new.counter.counting.counted in
-    let named = subst (λ (names : List (List ℕ)). AddsEach values (map (instance_of names) c.as_mut_slice.result.now) a b) c.take-entries.ensures.names c.in_ok-count.ensures.ok in
-    let taken = subst (λ (xs : List Note). AddsEach values (map (instance_of old.names) xs) a b) c.as_mut_slice.ensures.value named in
-    subst (λ (given : List Instance). AddsEach values given a b) c.take-entries.ensures.taken taken
+    let a = c.args.counter.now.noted.counted in
+    let b = c.count.new.counter.noted.counted in
+    let named = subst (λ (names : List (List ℕ)). AddsEach values (map (instance_of names) c.take-entries.result.items) a b) c.take-entries.ensures.names c.in_ok-room.ensures.ok in
+    subst (λ (given : List Instance). AddsEach values given a b) c.take-entries.ensures.taken named

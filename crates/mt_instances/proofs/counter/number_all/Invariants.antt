@@ -8,6 +8,6 @@ use Rattle.mt_instances.proofs.counter.number_all.Given as goal
 abbrev pub invariant-loop-k : goal.invariant-loop-k
 invariant-loop-k l = record {
   ready : AreReady l.instances.names l.words.lexicon.now l.counter;
-  learns : Learns l.fn.counter.counting l.counter.counting;
-  turning : AreTurning (IsNumbered l.counter.counting l.instances.names (value_in l.words.lexicon.now l.words.numbers.now)) l.fn.entries l.entries l.k;
+  learns : Learns l.fn.counter.noted l.counter.noted;
+  turning : AreTurning (IsNumbered l.counter.noted l.instances.names (value_in l.words.lexicon.now l.words.numbers.now)) l.fn.entries l.entries l.k;
 }

@@ -12,24 +12,24 @@ pub second_at-requires-clause-place : goal.second_at-requires-clause-place
 second_at-requires-clause-place c = second_in c.args.instances.now.names (length c.args.words.now.numbers.now) c.args.entry c.requires.entry
 
 pub returns-in_err-first-clause-learns : goal.returns-in_err-first-clause-learns
-returns-in_err-first-clause-learns c = learns_then c.args.counter.now.counting c.name_of.new.counter.counting c.word_at.new.counter.counting c.in_ok-name.ensures.learns c.in_err-first.ensures.learns
+returns-in_err-first-clause-learns c = learns_then c.args.counter.now.noted c.name_of.new.counter.noted c.word_at.new.counter.noted c.in_ok-name.ensures.learns c.in_err-first.ensures.learns
 
 pub returns-in_err-second-clause-learns : goal.returns-in_err-second-clause-learns
 returns-in_err-second-clause-learns c =
-    let named = learns_then c.args.counter.now.counting c.name_of.new.counter.counting c.word_at.new.counter.counting c.in_ok-name.ensures.learns c.in_ok-first.ensures.learns in
-    learns_then c.args.counter.now.counting c.word_at.new.counter.counting c.second_at.new.counter.counting named c.in_err-second.ensures.learns
+    let named = learns_then c.args.counter.now.noted c.name_of.new.counter.noted c.word_at.new.counter.noted c.in_ok-name.ensures.learns c.in_ok-first.ensures.learns in
+    learns_then c.args.counter.now.noted c.word_at.new.counter.noted c.second_at.new.counter.noted named c.in_err-second.ensures.learns
 
 pub returns-clause-learns : goal.returns-clause-learns
 returns-clause-learns c =
-    let named = learns_then c.args.counter.now.counting c.name_of.new.counter.counting c.word_at.new.counter.counting c.in_ok-name.ensures.learns c.in_ok-first.ensures.learns in
-    learns_then c.args.counter.now.counting c.word_at.new.counter.counting c.second_at.new.counter.counting named c.in_ok-second.ensures.learns
+    let named = learns_then c.args.counter.now.noted c.name_of.new.counter.noted c.word_at.new.counter.noted c.in_ok-name.ensures.learns c.in_ok-first.ensures.learns in
+    learns_then c.args.counter.now.noted c.word_at.new.counter.noted c.second_at.new.counter.noted named c.in_ok-second.ensures.learns
 
 pub returns-clause-numbered : goal.returns-clause-numbered
 returns-clause-numbered c =
     let values = value_in c.args.words.now.lexicon.now c.args.words.now.numbers.now in
-    let named = c.name_of.new.counter.counting in
-    let one = c.word_at.new.counter.counting in
-    let two = c.second_at.new.counter.counting in
+    let named = c.name_of.new.counter.noted in
+    let one = c.word_at.new.counter.noted in
+    let two = c.second_at.new.counter.noted in
     let more = learns_then named one two c.in_ok-first.ensures.learns c.in_ok-second.ensures.learns in
     record {
       name = begins_at named.names two.names c.in_ok-name.name (text_at c.args.instances.now.names c.args.entry.name) more.names c.in_ok-name.ensures.name;

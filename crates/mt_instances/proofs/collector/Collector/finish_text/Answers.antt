@@ -27,6 +27,6 @@ invariant_of-self-2 c = record {
 pub returns-clause-ok : goal.returns-clause-ok
 returns-clause-ok c =
     let old = c.self.inside in
-    let adds = subst (λ (numbers : List ℕ). AddsEach (value_in old.lexicon.now numbers) c.settle.new.self.given old.counter.counting.counted c.count_all.new.counter.counting.counted) c.as_slice.ensures.value c.in_ok-count_all.ensures.ok in
-    subst (λ (s : Collected). CountsEach s.lexicon s.numbers s.given s.counted c.count_all.new.counter.counting.counted) c.self.view_is
-    (counts_each old.lexicon.now old.numbers.items old.gathered.instances.given c.settle.new.self.given old.counter.counting.counted c.count_all.new.counter.counting.counted c.settle.ensures.once c.settle.ensures.same c.self.invariant.gathered_is.lie adds)
+    let adds = subst (λ (numbers : List ℕ). AddsEach (value_in old.lexicon.now numbers) c.settle.new.self.given old.counter.noted.counted c.count_all.new.counter.noted.counted) c.as_slice.ensures.value c.in_ok-count_all.ensures.ok in
+    subst (λ (s : Collected). CountsEach s.lexicon s.numbers s.given s.counted c.count_all.new.counter.noted.counted) c.self.view_is
+    (counts_each old.lexicon.now old.numbers.items old.gathered.instances.given c.settle.new.self.given old.counter.noted.counted c.count_all.new.counter.noted.counted c.settle.ensures.once c.settle.ensures.same c.self.invariant.gathered_is.lie adds)
