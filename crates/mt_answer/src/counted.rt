@@ -10,6 +10,7 @@ ghost use Rattle.mt_sketch.specs.Told.{AreOfSome, IsSketchReply};
 ghost use Rattle.mt_thesaurus.specs.Told.{IsThesaurusReply};
 
 use mt_base::{List, NoMemory};
+use mt_counts::Noted;
 use mt_sketch::{counts_are_within, sketch};
 use mt_thesaurus::Contexts;
 use mt_triples::Triples;
@@ -48,25 +49,25 @@ impl GrammarCounts {
         }
     }
 
-    /// Adds the counts over other texts, at the cost of what those have. Out of memory, or where all counts together would be 2^64 or more, each count is as it was. The
+    /// Adds what was noted over other texts, at the cost of what was. Out of memory, or where all counts together would be 2^64 or more, each count is as it was. The
     /// contexts are let go.
-    pub fn add(&mut self, alloc: Global, other: &Triples) -> Result<(), NoMemory>
+    pub fn add(&mut self, alloc: Global, text: &Noted) -> Result<(), NoMemory>
         ensures ok { (images : Images) (registry : registries.Registry) (grammar : queries.Grammar) (corpus others : Items texts.Text) → AreCountsOf images registry grammar corpus self.old
-            → AreCountsOf images registry grammar others other.now → OnOk result (AreCountsOf images registry grammar (corpus ++ others) self.new) }
+            → AreCountsOf images registry grammar others text.now.counted → OnOk result (AreCountsOf images registry grammar (corpus ++ others) self.new) }
         ensures err { (images : Images) (registry : registries.Registry) (grammar : queries.Grammar) (corpus : Items texts.Text) → AreCountsOf images registry grammar corpus self.old
             → OnErr result (AreCountsOf images registry grammar corpus self.new) }
     {
         self.contexts = None;
-        self.triples.add(alloc, other)
+        self.triples.add(alloc, text)
     }
 
     /// Takes away the counts over some of the texts, wherever these stand among them, at the cost of what they have, and lets the contexts go. It takes no memory.
-    pub fn subtract(&mut self, other: &Triples)
+    pub fn subtract(&mut self, text: &Noted)
         ensures { (images : Images) (registry : registries.Registry) (grammar : queries.Grammar) (before texts behind : Items texts.Text)
-            → AreCountsOf images registry grammar (before ++ texts ++ behind) self.old → AreCountsOf images registry grammar texts other.now → AreCountsOf images registry grammar (before ++ behind) self.new }
+            → AreCountsOf images registry grammar (before ++ texts ++ behind) self.old → AreCountsOf images registry grammar texts text.now.counted → AreCountsOf images registry grammar (before ++ behind) self.new }
     {
         self.contexts = None;
-        self.triples.subtract(other);
+        self.triples.subtract(text);
     }
 
     /// Makes the contexts, where there are none yet.

@@ -7,9 +7,7 @@ use Rattle.mt_text_spec.specs.Queries.{Grammar}
 use Rattle.mt_match_spec.specs.Values.{Images}
 use Rattle.mt_count_spec.specs.Counts.{OverNone}
 use Rattle.mt_segment_spec.specs.Tables.{Tables, AreTablesUnder}
-use Rattle.mt_corpus_spec.specs.Groups.{Group, corpus_of}
 use Rattle.mt_corpus_spec.specs.Images.{Corpus, AreImagesBy}
-use Rattle.mt_corpus_spec.specs.Segments.{StandFor}
 use Rattle.mt_corpus_spec.specs.Decoded.{images_in}
 use Rattle.mt_decode_laws.specs.Laws.{ImagesAreDecoded}
 use Rattle.mt_triples.specs.CountsOf.{AreCountsOf}
@@ -18,7 +16,6 @@ use Rattle.mt_corpus.specs.Added.{MayBeKept}
 use Rattle.mt_corpus.specs.Named.{IsTextAt, SplitsAt}
 use Rattle.mt_instances.specs.Collected.{Collected}
 use Rattle.mt_grammar_counts.specs.Told.{TellAll, Tells}
-use Rattle.mt_grammar_counts.proofs.GroupLists.{groups_many}
 
 -- ---- no texts
 
@@ -28,14 +25,6 @@ counts_none images registry grammar = record { both = λ name x y. OverNone; fir
 pub nothing_counted : (lexicon : List (List ℕ)) (collected : Collected) → collected ≡ record { lexicon = lexicon; numbers = []; given = []; counted = record { both = []; first = []; second = []; alone = [] } } →
     (images : Images) (registry : Registry) (grammar : Grammar) → AreCountsOf images registry grammar [] collected.counted
 nothing_counted lexicon collected is images registry grammar = subst (λ (c : Collected). AreCountsOf images registry grammar [] c.counted) (sym is) (counts_none images registry grammar)
-
--- where there are no segments there are no texts
-pub no_texts : (images : Images) (registry : Registry) (groups : List Group) (segments : List Tables) (live : List (List ℕ)) → StandFor images registry groups segments live → length segments ≡ 0 → [] ≡ corpus_of groups
-no_texts images registry groups segments live stand none = empty groups (sym (groups_many images registry groups segments live stand) ∙ none)
-  where
-    empty : (groups : List Group) → length groups ≡ 0 → [] ≡ corpus_of groups
-    empty [] e = refl
-    empty (g ∷ groups) e = absurd (omega (arith, e))
 
 -- ---- one text
 

@@ -17,27 +17,18 @@ ghost use Rattle.mt_grammar_counts.specs.Told.{HasNoRoom, Tells};
 
 use super::error::CountError;
 use super::patterns::GrammarPatterns;
-use super::segments::{Buffers, add_segment, add_segments};
+use super::segments::{add_segments, count_segment};
 use super::text_counts::TextCounts;
-use mt_base::{List, Registry, Steps, Value};
+use mt_base::{Registry, Steps, Value};
 use mt_corpus::Corpus;
 use mt_decode_laws::images_are_decoded;
 use mt_grammar::Grammar;
-use mt_instances::Collector;
 use mt_pattern::PatternShop;
 use mt_segment::Segment;
 use mt_triples::Triples;
 use std::alloc::Global;
 use std::marker::Brand;
 use std::sync::ledger::{Blank, Ledger};
-
-/// No lists yet.
-fn no_buffers(alloc: Global) -> Buffers {
-    Buffers {
-        listed: List::new(alloc),
-        rooms: List::new(alloc),
-    }
-}
 
 /// What a grammar counts over all texts of a corpus. No text is counted by the rows of another, and none has a query with more than 4,194,304 rows of its head or of an
 /// operand in it. The patterns, built once, may be used again. It costs by how many rows the queries have.
@@ -80,23 +71,17 @@ fn count_all<P: PatternShop, L: Ledger>(
     ensures shop { P.refused shop.new ≡ P.refused shop.old }
 {
     let mut steps = Steps::<L>::new(blank);
-    let (segments, _live) = corpus.held();
-    if segments.is_empty() {
-        return Ok(Triples::new(alloc));
-    }
-    let lexicon = segments.get(0).lexicon(corpus.registry().ws_attr());
-    let mut collector = Collector::new(alloc, lexicon);
+    let mut triples = Triples::new(alloc);
     add_segments(
         alloc,
         corpus,
         grammar,
         patterns,
-        &mut collector,
-        &mut no_buffers(alloc),
+        &mut triples,
         shop,
         &mut steps,
     )?;
-    Ok(Triples::of_counts(collector.finish()))
+    Ok(triples)
 }
 
 /// Counts one text of a segment, by its number there.
@@ -125,22 +110,17 @@ fn count_one<P: PatternShop, L: Ledger>(
     ensures shop { P.refused shop.new ≡ P.refused shop.old }
 {
     let mut steps = Steps::<L>::new(blank);
-    let _valid = segment.texts();
-    let mut collector = counts.collector(alloc, segment.lexicon(registry.ws_attr()));
-    add_segment(
+    count_segment(
         alloc,
         registry,
         grammar,
         patterns,
         segment,
         &[number],
-        &mut collector,
-        &mut counts.buffers,
+        counts,
         shop,
         &mut steps,
-    )?;
-    counts.take(collector);
-    Ok(())
+    )
 }
 
 /// Counts a text whose segment is built and may be kept, before it is. After an error nothing is known of the counts.

@@ -36,8 +36,8 @@ fn add_relation<L: Ledger>(
     requires fit { AllFit text.now.registry.now relation.now }
     requires prepared { IsReadyRelation text.now.segment.now relation.now prepared.now }
     requires known { Knows text.now.segment.now text.now.registry.now.ws_attr text.now.number collector.old }
-    requires rows { AreKnownIn text.now.segment.now scratch.old.known }
-    ensures rows { AreKnownIn text.now.segment.now scratch.new.known }
+    requires rows { AreKnownIn text.now.segment.now scratch.old.lists.known }
+    ensures rows { AreKnownIn text.now.segment.now scratch.new.lists.known }
     ensures only { OnlyGives collector.old collector.new }
     ensures given { (images : Images) (of : texts.Text) (lines : Items Line) → Tells images text.now.registry.now text.now.segment.now text.now.number of
         → AreOfLines images text.now.registry.now of lines collector.old.given
@@ -72,8 +72,8 @@ pub(crate) fn add_lines<L: Ledger>(
     requires fit { All (AllFit text.now.registry.now) grammar.now.relations }
     requires prepared { IsReadyGrammar text.now.segment.now grammar.now prepared.now }
     requires known { Knows text.now.segment.now text.now.registry.now.ws_attr text.now.number collector.old }
-    requires rows { AreKnownIn text.now.segment.now scratch.old.known }
-    ensures rows { AreKnownIn text.now.segment.now scratch.new.known }
+    requires rows { AreKnownIn text.now.segment.now scratch.old.lists.known }
+    ensures rows { AreKnownIn text.now.segment.now scratch.new.lists.known }
     ensures only { OnlyGives collector.old collector.new }
     ensures given { (images : Images) (of : texts.Text) → Tells images text.now.registry.now text.now.segment.now text.now.number of
         → AreOfLines images text.now.registry.now of [] collector.old.given

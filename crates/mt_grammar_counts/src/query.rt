@@ -22,7 +22,7 @@ use mt_eval_laws::labels_are_inside;
 use mt_grammar::Relation;
 use mt_instances::{Collector, lines_go_on};
 use mt_match_laws::rows_are_one;
-use mt_prepare::{KnownRows, Prepared};
+use mt_prepare::Prepared;
 use mt_rows::{EvalError, RowList};
 use mt_segment::Segment;
 use mt_segment_laws::{numbers_stand_for_values, tokens_stand_in_texts};
@@ -41,11 +41,11 @@ pub(crate) struct TextOf<'a> {
     pub(crate) listed: &'a List<u32>,
 }
 
-/// What the queries use one after another in a segment: a list that is filled again for each, and the rows of the segment that are known so far.
+/// What the queries use one after another: rooms that are made whole again for each, and the lists of the evaluation, with the rows of the segment that are known so far.
 #[derive(Drop)]
 pub(crate) struct Scratch {
     pub(crate) rooms: List<u32>,
-    pub(crate) known: KnownRows,
+    pub(crate) lists: mt_eval::Scratch,
 }
 
 /// Makes the rooms of a head and of operands, so many in all, whole again.
@@ -71,8 +71,8 @@ fn rows_of<L: Ledger>(
     requires text { IsTextIn text.now.registry.now text.now.segment.now text.now.number text.now.listed.now }
     requires fits { Fits text.now.registry.now query.now }
     requires prepared { IsPrepared text.now.segment.now query.now prepared.now }
-    requires rows { AreKnownIn text.now.segment.now scratch.old.known }
-    ensures rows { AreKnownIn text.now.segment.now scratch.new.known }
+    requires rows { AreKnownIn text.now.segment.now scratch.old.lists.known }
+    ensures rows { AreKnownIn text.now.segment.now scratch.new.lists.known }
     ensures kept { IfOk result (KeptIn text.now.segment.now (text.now.number ∷ []) query.now) }
     ensures room { (images : Images) (of : texts.Text) → Tells images text.now.registry.now text.now.segment.now text.now.number of
         → OnOk result (¬ Over images text.now.registry.now (of ∷ []) query.now) }
@@ -92,7 +92,7 @@ fn rows_of<L: Ledger>(
         text.segment,
         text.listed,
         &mut scratch.rooms,
-        &mut scratch.known,
+        &mut scratch.lists,
         steps,
     ) {
         Ok(rows) => Ok(rows),
@@ -116,8 +116,8 @@ pub(crate) fn add_query<L: Ledger>(
     requires fits { Fits text.now.registry.now query.now }
     requires prepared { IsPrepared text.now.segment.now query.now prepared.now }
     requires known { Knows text.now.segment.now text.now.registry.now.ws_attr text.now.number collector.old }
-    requires rows { AreKnownIn text.now.segment.now scratch.old.known }
-    ensures rows { AreKnownIn text.now.segment.now scratch.new.known }
+    requires rows { AreKnownIn text.now.segment.now scratch.old.lists.known }
+    ensures rows { AreKnownIn text.now.segment.now scratch.new.lists.known }
     ensures only { OnlyGives collector.old collector.new }
     ensures given { (images : Images) (of : texts.Text) (lines : Items Line) → Tells images text.now.registry.now text.now.segment.now text.now.number of
         → AreOfLines images text.now.registry.now of lines collector.old.given
@@ -136,5 +136,6 @@ pub(crate) fn add_query<L: Ledger>(
     tokens_stand_in_texts();
     let rows = rows_of(alloc, query, prepared, text, scratch, steps)?;
     collector.add_rows(relation, &rows)?;
+    scratch.lists.take_back(rows);
     Ok(())
 }

@@ -16,6 +16,7 @@ ghost use Rattle.mt_grammar_counts.specs.Told.{HasNoRoom, TellAll};
 use super::error::CountError;
 use super::patterns::GrammarPatterns;
 use super::query::Scratch;
+use super::text_counts::TextCounts;
 use super::texts::add_texts;
 use mt_base::{List, Registry, Steps};
 use mt_corpus::Corpus;
@@ -25,10 +26,9 @@ use mt_grammar::Grammar;
 use mt_grammar_laws::grammar_queries_are_in_order;
 use mt_instances::Collector;
 use mt_pattern::PatternShop;
-use mt_prepare::KnownRows;
 use mt_segment::Segment;
+use mt_triples::Triples;
 use std::alloc::Global;
-use std::mem;
 use std::sync::ledger::Ledger;
 
 /// So many rows of a segment at most are kept for the queries that ask for the same. A row has a bit for each token of the segment.
@@ -37,8 +37,26 @@ const MOST_ROWS: usize = 32;
 /// Lists that are filled again for each text and query.
 #[derive(Drop)]
 pub(crate) struct Buffers {
-    pub(crate) listed: List<u32>,
-    pub(crate) rooms: List<u32>,
+    listed: List<u32>,
+    scratch: Scratch,
+}
+
+impl Buffers {
+    /// Empty ones. They take no memory.
+    pub(crate) fn new(alloc: Global) -> Self {
+        Buffers {
+            listed: List::new(alloc),
+            scratch: Scratch {
+                rooms: List::new(alloc),
+                lists: mt_eval::Scratch::new(alloc, MOST_ROWS),
+            },
+        }
+    }
+
+    /// Whether they are so small that their memory may well be kept for other texts.
+    pub(crate) fn are_small(&self) -> bool {
+        self.scratch.lists.is_small()
+    }
 }
 
 /// Counts the texts of a segment that have these numbers, each by itself. The queries of the grammar are made ready once, and share the rows of their tests.
@@ -69,10 +87,7 @@ pub(crate) fn add_segment<'a, P: PatternShop, L: Ledger>(
     let _valid = segment.texts();
     collector.turn_to(segment.lexicon(registry.ws_attr()));
     let prepared = patterns.prepare_all(alloc, grammar, segment, shop, steps)?;
-    let mut scratch = Scratch {
-        rooms: mem::replace(&mut buffers.rooms, List::new(alloc)),
-        known: KnownRows::new(alloc, MOST_ROWS),
-    };
+    buffers.scratch.lists.turn(alloc, MOST_ROWS);
     let counted = add_texts(
         alloc,
         registry,
@@ -82,29 +97,67 @@ pub(crate) fn add_segment<'a, P: PatternShop, L: Ledger>(
         numbers,
         collector,
         &mut buffers.listed,
-        &mut scratch,
+        &mut buffers.scratch,
         steps,
     );
-    buffers.rooms = scratch.rooms;
     patterns.take_back(prepared);
     counted
 }
 
-/// Counts the texts of a corpus, one segment after another.
-pub(crate) fn add_segments<'a, P: PatternShop, L: Ledger>(
+/// Counts the texts of a segment that have these numbers. After an error nothing is known of the counts.
+pub(crate) fn count_segment<P: PatternShop, L: Ledger>(
     alloc: Global,
-    corpus: &'a Corpus,
+    registry: &Registry,
     grammar: &Grammar,
     patterns: &mut GrammarPatterns<P>,
-    collector: &mut Collector<'a>,
-    buffers: &mut Buffers,
+    segment: &Segment,
+    numbers: &[u32],
+    counts: &mut TextCounts,
+    shop: &mut P,
+    steps: &mut Steps<L>,
+) -> Result<(), CountError>
+    requires under { AreTablesUnder registry.now segment.now }
+    requires numbers { AreTexts segment.now numbers.now }
+    requires grammar { ValidGrammar registry.now grammar.now }
+    requires patterns { patterns.old ≡ patterns_of grammar.now }
+    ensures counts { (images : Images) (of : Items texts.Text) → TellAll images registry.now segment.now numbers.now of → OnOk result (AreCountsOf images registry.now grammar.now of counts.new) }
+    ensures room { (images : Images) (of : Items texts.Text) → TellAll images registry.now segment.now numbers.now of → OnOk result (HasRoom images registry.now grammar.now of) }
+    ensures too_many { (images : Images) (of : Items texts.Text) → TellAll images registry.now segment.now numbers.now of → IsErrOf result CountError.TooManyRows → HasNoRoom images registry.now grammar.now of }
+    ensures patterns { patterns.new ≡ patterns.old }
+    ensures shop { P.refused shop.new ≡ P.refused shop.old }
+{
+    let _valid = segment.texts();
+    let mut collector = counts.collector(alloc, segment.lexicon(registry.ws_attr()));
+    add_segment(
+        alloc,
+        registry,
+        grammar,
+        patterns,
+        segment,
+        numbers,
+        &mut collector,
+        &mut counts.buffers,
+        shop,
+        steps,
+    )?;
+    counts.take(collector);
+    Ok(())
+}
+
+/// Counts the texts of a corpus, one segment after another, and adds them to the counts over no texts.
+pub(crate) fn add_segments<P: PatternShop, L: Ledger>(
+    alloc: Global,
+    corpus: &Corpus,
+    grammar: &Grammar,
+    patterns: &mut GrammarPatterns<P>,
+    triples: &mut Triples,
     shop: &mut P,
     steps: &mut Steps<L>,
 ) -> Result<(), CountError>
     requires grammar { ValidGrammar corpus.now.registry grammar.now }
     requires patterns { patterns.old ≡ patterns_of grammar.now }
-    requires none { (images : Images) → AreCountsOf images corpus.now.registry grammar.now [] collector.old.counted }
-    ensures counts { (images : Images) → AreImagesBy images corpus.now.taken → OnOk result (AreCountsOf images corpus.now.registry grammar.now (corpus_of corpus.now.groups) collector.new.counted) }
+    requires none { (images : Images) → AreCountsOf images corpus.now.registry grammar.now [] triples.old }
+    ensures counts { (images : Images) → AreImagesBy images corpus.now.taken → OnOk result (AreCountsOf images corpus.now.registry grammar.now (corpus_of corpus.now.groups) triples.new) }
     ensures room { (images : Images) → AreImagesBy images corpus.now.taken → OnOk result (HasRoom images corpus.now.registry grammar.now (corpus_of corpus.now.groups)) }
     ensures too_many { (images : Images) → AreImagesBy images corpus.now.taken → IsErrOf result CountError.TooManyRows → HasNoRoom images corpus.now.registry grammar.now (corpus_of corpus.now.groups) }
     ensures patterns { patterns.new ≡ patterns.old }
@@ -114,21 +167,22 @@ pub(crate) fn add_segments<'a, P: PatternShop, L: Ledger>(
     live_texts_are_numbered();
     let registry = corpus.registry();
     let (segments, live) = corpus.held();
+    let mut counts = TextCounts::new(alloc);
     for i in 0..segments.len() {
         let segment = segments.get(i);
         let numbers = live.get(i);
-        add_segment(
+        count_segment(
             alloc,
             registry,
             grammar,
             patterns,
             segment,
             numbers.as_slice(),
-            collector,
-            buffers,
+            &mut counts,
             shop,
             steps,
         )?;
+        triples.add(alloc, counts.noted())?;
     }
     Ok(())
 }

@@ -59,8 +59,8 @@ fn add_text<L: Ledger>(
     requires fit { All (AllFit text.now.registry.now) grammar.now.relations }
     requires prepared { IsReadyGrammar text.now.segment.now grammar.now prepared.now }
     requires fresh { IsFresh text.now.segment.now text.now.registry.now.ws_attr collector.old }
-    requires rows { AreKnownIn text.now.segment.now scratch.old.known }
-    ensures rows { AreKnownIn text.now.segment.now scratch.new.known }
+    requires rows { AreKnownIn text.now.segment.now scratch.old.lists.known }
+    ensures rows { AreKnownIn text.now.segment.now scratch.new.lists.known }
     ensures fresh { OnOk result (IsFresh text.now.segment.now text.now.registry.now.ws_attr collector.new) }
     ensures counts { (images : Images) (of : texts.Text) (done : Items texts.Text) → Tells images text.now.registry.now text.now.segment.now text.now.number of
         → AreCountsOf images text.now.registry.now grammar.now done collector.old.counted
@@ -106,8 +106,8 @@ fn add_number<L: Ledger>(
     requires fit { All (AllFit registry.now) grammar.now.relations }
     requires prepared { IsReadyGrammar segment.now grammar.now prepared.now }
     requires fresh { IsFresh segment.now registry.now.ws_attr collector.old }
-    requires rows { AreKnownIn segment.now scratch.old.known }
-    ensures rows { AreKnownIn segment.now scratch.new.known }
+    requires rows { AreKnownIn segment.now scratch.old.lists.known }
+    ensures rows { AreKnownIn segment.now scratch.new.lists.known }
     ensures fresh { OnOk result (IsFresh segment.now registry.now.ws_attr collector.new) }
     ensures counts { (images : Images) (of : texts.Text) (done : Items texts.Text) → Tells images registry.now segment.now number of → AreCountsOf images registry.now grammar.now done collector.old.counted
         → OnOk result (AreCountsOf images registry.now grammar.now (done ++ of ∷ []) collector.new.counted) }
@@ -142,8 +142,8 @@ pub(crate) fn add_texts<L: Ledger>(
     requires fit { All (AllFit registry.now) grammar.now.relations }
     requires prepared { IsReadyGrammar segment.now grammar.now prepared.now }
     requires fresh { IsFresh segment.now registry.now.ws_attr collector.old }
-    requires rows { AreKnownIn segment.now scratch.old.known }
-    ensures rows { AreKnownIn segment.now scratch.new.known }
+    requires rows { AreKnownIn segment.now scratch.old.lists.known }
+    ensures rows { AreKnownIn segment.now scratch.new.lists.known }
     ensures counts { (images : Images) (of : Items texts.Text) (done : Items texts.Text) → TellAll images registry.now segment.now numbers.now of → AreCountsOf images registry.now grammar.now done collector.old.counted
         → OnOk result (AreCountsOf images registry.now grammar.now (done ++ of) collector.new.counted) }
     ensures room { (images : Images) (of : Items texts.Text) → TellAll images registry.now segment.now numbers.now of → OnOk result (HasRoom images registry.now grammar.now of) }

@@ -10,11 +10,11 @@ use super::rules::Rules;
 use mt_answer::GrammarCounts;
 use mt_corpus::Corpus;
 use mt_count_laws::{one_count, one_unary_count};
+use mt_counts::Noted;
 use mt_grammar::Grammar;
 use mt_grammar_counts::{CountError, count_added};
 use mt_pattern::PatternShop;
 use mt_segment::Segment;
-use mt_triples::Triples;
 use std::alloc::Global;
 
 impl<P: PatternShop> Rules<P> {
@@ -54,7 +54,7 @@ impl<P: PatternShop> Rules<P> {
             &mut self.counts,
             corpus,
             segment,
-            self.text_counts.triples(),
+            self.text_counts.noted(),
         );
         self.text_counts.let_go_where_large(alloc);
         kept
@@ -68,12 +68,12 @@ fn keep_counted(
     counts: &mut GrammarCounts,
     corpus: &mut Corpus,
     segment: Segment,
-    more: &Triples,
+    more: &Noted,
 ) -> Result<(), CountError>
     requires over { AreOver corpus.old (record { grammar = grammar.now; counted = counts.old }) }
     requires segment { SomeMayBeKept corpus.old segment }
     requires images { HaveImages corpus.old segment }
-    requires counts { (text : texts.Text) → MayBeKept corpus.old text segment → IsCountedAlone corpus.old grammar.now text segment more.now }
+    requires counts { (text : texts.Text) → MayBeKept corpus.old text segment → IsCountedAlone corpus.old grammar.now text segment more.now.counted }
     ensures ok { (text : texts.Text) → MayBeKept corpus.old text segment → OnOk result (KeepsAlone corpus.old text segment corpus.new) }
     ensures err { OnErr result (corpus.new ≡ corpus.old) }
     ensures over { AreOver corpus.new (record { grammar = grammar.now; counted = counts.new }) }

@@ -53,7 +53,7 @@ impl<P: PatternShop> Rules<P> {
         let Ok(tokens) = corpus.remove(name) else {
             unreachable!()
         };
-        self.counts.subtract(self.text_counts.triples());
+        self.counts.subtract(self.text_counts.noted());
         self.text_counts.let_go_where_large(alloc);
         Ok(tokens)
     }

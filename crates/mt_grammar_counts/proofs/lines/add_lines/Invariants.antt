@@ -15,6 +15,6 @@ invariant-loop-i g l = record {
   only : OnlyGives l.initial.collector l.collector;
   given : (images : Images) (of : Text) → Tells images l.text.registry.now l.text.segment.now l.text.number of → AreOfLines images l.text.registry.now of [] l.initial.collector.given →
       AreOfLines images l.text.registry.now of (flat_map lines_of (take l.i l.grammar.relations)) l.collector.given;
-  rows : AreKnownIn l.text.segment.now l.scratch.known;
+  rows : AreKnownIn l.text.segment.now l.scratch.lists.known;
   fit : (images : Images) (of : Text) → Tells images l.text.registry.now l.text.segment.now l.text.number of → AllOf images l.text.registry.now of (take l.i l.grammar.relations);
 }

@@ -14,6 +14,6 @@ invariant-loop-i g l = record {
   only : OnlyGives l.initial.collector l.collector;
   given : (images : Images) (of : Text) (lines : List Line) → Tells images l.text.registry.now l.text.segment.now l.text.number of → AreOfLines images l.text.registry.now of lines l.initial.collector.given →
       AreOfLines images l.text.registry.now of (lines ++ map (line_of l.relation) (take l.i l.relation.queries)) l.collector.given;
-  rows : AreKnownIn l.text.segment.now l.scratch.known;
+  rows : AreKnownIn l.text.segment.now l.scratch.lists.known;
   fit : (images : Images) (of : Text) → Tells images l.text.registry.now l.text.segment.now l.text.number of → AllFitIn images l.text.registry.now of (take l.i l.relation.queries);
 }

@@ -33,4 +33,4 @@ returns-clause-counts g c = λ images of done tell old.
     (subst (λ (counted : Counted). AreCountsOf images c.args.registry.now c.args.grammar.now done counted) (sym (ap (λ (o : Collected). o.counted) c.turn_to.ensures)) old)
 
 pub add_texts-counted-requires-clause-rows : goal.add_texts-counted-requires-clause-rows
-add_texts-counted-requires-clause-rows g c = c.new-2.ensures.known c.args.segment.now
+add_texts-counted-requires-clause-rows g c = c.turn.ensures.known c.args.segment.now

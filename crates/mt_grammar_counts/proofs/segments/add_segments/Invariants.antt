@@ -11,6 +11,6 @@ abbrev pub invariant-loop-i : goal.invariant-loop-i
 invariant-loop-i g l = record {
   patterns : l.patterns ≡ l.initial.patterns;
   shop : g.P.PatternShop.refused l.shop ≡ g.P.PatternShop.refused l.initial.shop;
-  counts : (images : Images) → AreImagesBy images l.corpus.taken → AreCountsOf images l.corpus.registry l.grammar (corpus_of (take l.i l.corpus.groups)) l.collector.counted;
+  counts : (images : Images) → AreImagesBy images l.corpus.taken → AreCountsOf images l.corpus.registry l.grammar (corpus_of (take l.i l.corpus.groups)) l.triples;
   room : (images : Images) → AreImagesBy images l.corpus.taken → HasRoom images l.corpus.registry l.grammar (corpus_of (take l.i l.corpus.groups));
 }

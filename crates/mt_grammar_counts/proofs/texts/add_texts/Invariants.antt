@@ -12,7 +12,7 @@ use Rattle.mt_grammar_counts.proofs.texts.add_texts.Given as goal
 abbrev pub invariant-loop-k : goal.invariant-loop-k
 invariant-loop-k g l = record {
   fresh : IsFresh l.segment l.registry.ws_attr l.collector;
-  rows : AreKnownIn l.segment l.scratch.known;
+  rows : AreKnownIn l.segment l.scratch.lists.known;
   counts : (images : Images) (of done : List Text) → TellAll images l.registry l.segment l.numbers of → AreCountsOf images l.registry l.grammar done l.initial.collector.counted → AreCountsOf images l.registry l.grammar (done ++ take l.k of) l.collector.counted;
   room : (images : Images) (of : List Text) → TellAll images l.registry l.segment l.numbers of → HasRoom images l.registry l.grammar (take l.k of);
 }

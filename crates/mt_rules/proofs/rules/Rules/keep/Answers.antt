@@ -21,7 +21,7 @@ keep_counted-kept-requires-clause-over g c = subst (λ (r : Ruled). AreOver c.ar
 pub keep_counted-kept-requires-clause-counts : goal.keep_counted-kept-requires-clause-counts
 keep_counted-kept-requires-clause-counts g c = λ text may. record {
   counts = λ images by.
-      subst (λ (counted : Counted). AreCountsOf images c.args.corpus.now.registry c.self.inside.grammar (text ∷ []) counted) (sym c.triples.ensures) (c.in_ok-count_added.ensures.counts images text may by);
+      subst (λ (counted : Counted). AreCountsOf images c.args.corpus.now.registry c.self.inside.grammar (text ∷ []) counted) (sym c.noted.ensures) (c.in_ok-count_added.ensures.counts images text may by);
   room = λ images by. c.in_ok-count_added.ensures.room images text may by;
 }
 

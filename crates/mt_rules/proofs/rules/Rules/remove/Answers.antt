@@ -24,5 +24,5 @@ returns-clause-over g c =
     let grammar = c.self.inside.grammar in
     let split = c.in-Ok-remove.ensures.split in
     let over : AreOver c.args.corpus.now (ruled_by grammar c.self.inside.counts) = subst (λ (r : Ruled). AreOver c.args.corpus.now r) (sym c.self.view_is) c.requires.over in
-    over_less c.args.corpus.now c.remove.new.self c.args.name.now split c.in-Ok-remove.ensures.ok grammar c.self.inside.counts c.triples.result.now c.subtract.new.self
-    (λ images by. subst (λ (counted : Counted). AreCountsOf images c.args.corpus.now.registry grammar (split.text ∷ []) counted) (sym c.triples.ensures) (c.in-Ok.ensures.counts images split by)) c.subtract.ensures over
+    over_less c.args.corpus.now c.remove.new.self c.args.name.now split c.in-Ok-remove.ensures.ok grammar c.self.inside.counts c.noted.result.now.counted c.subtract.new.self
+    (λ images by. subst (λ (counted : Counted). AreCountsOf images c.args.corpus.now.registry grammar (split.text ∷ []) counted) (sym c.noted.ensures) (c.in-Ok.ensures.counts images split by)) c.subtract.ensures over
