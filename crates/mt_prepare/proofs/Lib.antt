@@ -15,3 +15,4 @@ pub mod Sights
 pub mod LastEnds
 pub mod Standing
 pub mod Finding
+pub mod KnownLists

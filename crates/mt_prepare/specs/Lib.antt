@@ -5,6 +5,7 @@ pub mod Prepared
 pub mod Resolved
 pub mod TestRows
 pub mod KnownRows
+pub mod KnownSpans
 pub mod TagRows
 pub mod Viewed
 pub mod Sighted

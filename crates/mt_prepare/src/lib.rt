@@ -3,9 +3,11 @@
 
 mod judges;
 mod known_rows;
+mod known_spans;
 mod patterns;
 mod prepared;
 mod resolved;
+mod shared_spans;
 mod sighted;
 mod spare;
 mod tag_rows;
@@ -15,9 +17,11 @@ mod tests_resolved;
 mod view;
 
 pub use known_rows::KnownRows;
+pub use known_spans::KnownSpans;
 pub use patterns::{PatternError, Patterns, check};
 pub use prepared::{Prepared, PreparedExpr, prepare};
 pub use resolved::Resolved;
+pub use shared_spans::SharedSpans;
 pub use sighted::Sighted;
 pub use tag_rows::TagRows;
 pub use test_rows::row_of;

@@ -8,6 +8,7 @@ ghost use Rattle.mt_eval_spec.specs.Asked.{test_patterns, expr_patterns, filters
 ghost use Rattle.mt_prepare.specs.Built.{IsWhole, Blames};
 
 use super::prepared::Prepared;
+use super::shared_spans::SharedSpans;
 use super::spare::Spare;
 use mt_base::{List, NoMemory, Span, Value};
 use mt_cql::{Expr, Filters, Query, Test};
@@ -87,7 +88,11 @@ impl<P: PatternShop> Patterns<P> {
     }
 
     /// A list for the spans of so many tags.
-    pub(crate) fn tags(&mut self, alloc: Global, count: usize) -> Result<List<List<Span>>, NoMemory>
+    pub(crate) fn tags(
+        &mut self,
+        alloc: Global,
+        count: usize,
+    ) -> Result<List<SharedSpans>, NoMemory>
         ensures none { IfOk result (λ tags. tags ≡ []) }
         ensures texts { self.new ≡ self.old }
     {

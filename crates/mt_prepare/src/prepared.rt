@@ -12,13 +12,16 @@ ghost use Rattle.mt_eval_spec.specs.Literals.{AreEquals, FindEach, IsEquals, IsP
 ghost use Rattle.mt_eval_spec.specs.RowsIn.{operands};
 ghost use Rattle.mt_prepare.specs.Asks.{ExprStands, FiltersName, FiltersStand, HasAttr, HasKind, Names, NamesOnly, TestStands};
 ghost use Rattle.mt_prepare.specs.Built.{IsWhole, Blames};
+ghost use Rattle.mt_prepare.specs.KnownSpans.{AreSpansKnown};
 ghost use Rattle.mt_prepare.specs.Prepared.{AddsReady, IsReady, IsPrepared};
 
+use super::known_spans::KnownSpans;
 use super::patterns::{PatternError, Patterns};
 use super::resolved::Resolved;
+use super::shared_spans::SharedSpans;
 use super::tags::{spans_of_kind, spans_of_tag};
 use super::tests_resolved::resolved_test;
-use mt_base::{List, NoMemory, Span, Steps};
+use mt_base::{List, NoMemory, Steps};
 use mt_cql::{Expr, Filters, Query, Test};
 use mt_pattern::PatternShop;
 use mt_segment::Segment;
@@ -29,7 +32,7 @@ use std::sync::ledger::Ledger;
 #[derive(Drop)]
 pub struct PreparedExpr {
     pub tests: List<Resolved>,
-    pub tags: List<List<Span>>,
+    pub tags: List<SharedSpans>,
 }
 
 /// A query made ready for a segment: its head, and then the operands of its filters, each before those of its own filters.
@@ -56,24 +59,28 @@ pub fn prepare<P: PatternShop, L: Ledger>(
     ensures finds { IsPlain query.now → FindEach segment.now (token_tests query.now.head) (steps.new - steps.old) }
 {
     let mut patterns = Patterns::<P>::build(alloc, query, shop)?;
-    match patterns.prepare(alloc, query, segment, shop, steps) {
+    let mut known = KnownSpans::new(alloc);
+    match patterns.prepare(alloc, query, segment, &mut known, shop, steps) {
         Ok(prepared) => Ok(prepared),
         Err(_) => Err(PatternError::NoMemory),
     }
 }
 
 impl<P: PatternShop> Patterns<P> {
-    /// Makes the query of these patterns ready for a segment.
+    /// Makes the query of these patterns ready for a segment. Spans that are known for the segment are shared, and those that are listed are kept for the next query.
     pub fn prepare<L: Ledger>(
         &mut self,
         alloc: Global,
         query: &Query,
         segment: &Segment,
+        known: &mut KnownSpans,
         shop: &mut P,
         steps: &mut Steps<L>,
     ) -> Result<Prepared, NoMemory>
         requires query { IsFor segment.now query.now }
         requires patterns { self.old ≡ query_patterns query.now }
+        requires known { AreSpansKnown segment.now known.old }
+        ensures known { AreSpansKnown segment.now known.new }
         ensures prepared { IfOk result (λ prepared. IsPrepared segment.now query.now prepared) }
         ensures texts { self.new ≡ self.old }
         ensures kept { P.refused shop.new ≡ P.refused shop.old }
@@ -82,7 +89,16 @@ impl<P: PatternShop> Patterns<P> {
     {
         let mut asked = 0;
         let mut exprs = List::with_capacity(alloc, expr_count(query))?;
-        let head = ready(alloc, segment, query.head(), self, &mut asked, shop, steps)?;
+        let head = ready(
+            alloc,
+            segment,
+            query.head(),
+            self,
+            &mut asked,
+            known,
+            shop,
+            steps,
+        )?;
         exprs.push(head)?;
         add_operands(
             alloc,
@@ -90,6 +106,7 @@ impl<P: PatternShop> Patterns<P> {
             query.filters(),
             self,
             &mut asked,
+            known,
             shop,
             steps,
             &mut exprs,
@@ -105,12 +122,15 @@ fn add_operands<P: PatternShop, L: Ledger>(
     filters: &Filters,
     patterns: &mut Patterns<P>,
     asked: &mut usize,
+    known: &mut KnownSpans,
     shop: &mut P,
     steps: &mut Steps<L>,
     exprs: &mut List<PreparedExpr>,
 ) -> Result<(), NoMemory>
     requires known { FiltersName (HasAttr segment.now) (HasKind segment.now) (filters_shape filters.now) }
     requires stands { FiltersStand patterns.old asked.old (filters_shape filters.now) }
+    requires spans { AreSpansKnown segment.now known.old }
+    ensures spans { AreSpansKnown segment.now known.new }
     ensures ready { OnOk result ((before : Items q.Expr) → AllZip (IsReady segment.now) before exprs.old → AllZip (IsReady segment.now) (before ++ operands (filters_shape filters.now)) exprs.new) }
     ensures asked { OnOk result (asked.new ≡ asked.old + length (filters_patterns (filters_shape filters.now))) }
     ensures texts { patterns.new ≡ patterns.old }
@@ -121,7 +141,16 @@ fn add_operands<P: PatternShop, L: Ledger>(
     match filters {
         Filters::End => Ok(()),
         Filters::More(filter, others) => {
-            let head = ready(alloc, segment, &filter.head, patterns, asked, shop, steps)?;
+            let head = ready(
+                alloc,
+                segment,
+                &filter.head,
+                patterns,
+                asked,
+                known,
+                shop,
+                steps,
+            )?;
             exprs.push(head)?;
             add_operands(
                 alloc,
@@ -129,11 +158,14 @@ fn add_operands<P: PatternShop, L: Ledger>(
                 &filter.filters,
                 patterns,
                 asked,
+                known,
                 shop,
                 steps,
                 exprs,
             )?;
-            add_operands(alloc, segment, others, patterns, asked, shop, steps, exprs)
+            add_operands(
+                alloc, segment, others, patterns, asked, known, shop, steps, exprs,
+            )
         }
     }
 }
@@ -195,11 +227,14 @@ fn ready<P: PatternShop, L: Ledger>(
     expr: &Expr,
     patterns: &mut Patterns<P>,
     asked: &mut usize,
+    known: &mut KnownSpans,
     shop: &mut P,
     steps: &mut Steps<L>,
 ) -> Result<PreparedExpr, NoMemory>
     requires known { Names (HasAttr segment.now) (HasKind segment.now) (shape expr.now) }
     requires stands { ExprStands patterns.old asked.old (shape expr.now) }
+    requires spans { AreSpansKnown segment.now known.old }
+    ensures spans { AreSpansKnown segment.now known.new }
     ensures ready { IfOk result (λ ready. IsReady segment.now (shape expr.now) ready) }
     ensures asked { OnOk result (asked.new ≡ asked.old + length (expr_patterns (shape expr.now))) }
     ensures texts { patterns.new ≡ patterns.old }
@@ -212,7 +247,7 @@ fn ready<P: PatternShop, L: Ledger>(
         tags: patterns.tags(alloc, tag_count(expr))?,
     };
     add_expr(
-        alloc, segment, expr, patterns, asked, shop, steps, &mut ready,
+        alloc, segment, expr, patterns, asked, known, shop, steps, &mut ready,
     )?;
     Ok(ready)
 }
@@ -224,12 +259,15 @@ fn add_expr<P: PatternShop, L: Ledger>(
     expr: &Expr,
     patterns: &mut Patterns<P>,
     asked: &mut usize,
+    known: &mut KnownSpans,
     shop: &mut P,
     steps: &mut Steps<L>,
     ready: &mut PreparedExpr,
 ) -> Result<(), NoMemory>
     requires known { Names (HasAttr segment.now) (HasKind segment.now) (shape expr.now) }
     requires stands { ExprStands patterns.old asked.old (shape expr.now) }
+    requires spans { AreSpansKnown segment.now known.old }
+    ensures spans { AreSpansKnown segment.now known.new }
     ensures ready { OnOk result (AddsReady segment.now (token_tests (shape expr.now)) (tags (shape expr.now)) ready.old ready.new) }
     ensures asked { OnOk result (asked.new ≡ asked.old + length (expr_patterns (shape expr.now))) }
     ensures texts { patterns.new ≡ patterns.old }
@@ -243,28 +281,38 @@ fn add_expr<P: PatternShop, L: Ledger>(
         }
         Expr::Begin { kind, test } => {
             add_tag(
-                alloc, segment, *kind, test, patterns, asked, shop, steps, ready,
+                alloc, segment, *kind, test, patterns, asked, known, shop, steps, ready,
             )
         }
-        Expr::End { kind } => add_end(alloc, segment, *kind, patterns, steps, ready),
+        Expr::End { kind } => add_end(alloc, segment, *kind, patterns, known, steps, ready),
         Expr::Whole { kind, test } => {
             add_tag(
-                alloc, segment, *kind, test, patterns, asked, shop, steps, ready,
+                alloc, segment, *kind, test, patterns, asked, known, shop, steps, ready,
             )
         }
         Expr::Seq(left, right) => {
-            add_expr(alloc, segment, left, patterns, asked, shop, steps, ready)?;
-            add_expr(alloc, segment, right, patterns, asked, shop, steps, ready)
+            add_expr(
+                alloc, segment, left, patterns, asked, known, shop, steps, ready,
+            )?;
+            add_expr(
+                alloc, segment, right, patterns, asked, known, shop, steps, ready,
+            )
         }
         Expr::Choice(left, right) => {
-            add_expr(alloc, segment, left, patterns, asked, shop, steps, ready)?;
-            add_expr(alloc, segment, right, patterns, asked, shop, steps, ready)
+            add_expr(
+                alloc, segment, left, patterns, asked, known, shop, steps, ready,
+            )?;
+            add_expr(
+                alloc, segment, right, patterns, asked, known, shop, steps, ready,
+            )
         }
         Expr::Repeat {
             inner,
             least: _,
             most: _,
-        } => add_expr(alloc, segment, inner, patterns, asked, shop, steps, ready),
+        } => add_expr(
+            alloc, segment, inner, patterns, asked, known, shop, steps, ready,
+        ),
     }
 }
 
@@ -300,19 +348,24 @@ fn add_tag<P: PatternShop, L: Ledger>(
     test: &Test,
     patterns: &mut Patterns<P>,
     asked: &mut usize,
+    known: &mut KnownSpans,
     shop: &mut P,
     steps: &mut Steps<L>,
     ready: &mut PreparedExpr,
 ) -> Result<(), NoMemory>
     requires known { HasKind segment.now kind }
     requires stands { TestStands patterns.old asked.old (test_shape test.now) }
+    requires spans { AreSpansKnown segment.now known.old }
+    ensures spans { AreSpansKnown segment.now known.new }
     ensures ready { OnOk result ((place : TagPlace) → AddsReady segment.now [] (record { place = place; kind = kind; test = test_shape test.now } ∷ []) ready.old ready.new) }
     ensures asked { OnOk result (asked.new ≡ asked.old + length (test_patterns (test_shape test.now))) }
     ensures texts { patterns.new ≡ patterns.old }
     ensures kept { P.refused shop.new ≡ P.refused shop.old }
     ensures rises { steps.old ≤ steps.new }
 {
-    let spans = spans_of_tag(alloc, segment, kind, test, patterns, asked, shop, steps)?;
+    let spans = spans_of_tag(
+        alloc, segment, kind, test, patterns, asked, known, shop, steps,
+    )?;
     ready.tags.push(spans)
 }
 
@@ -322,14 +375,17 @@ fn add_end<P: PatternShop, L: Ledger>(
     segment: &Segment,
     kind: u16,
     patterns: &mut Patterns<P>,
+    known: &mut KnownSpans,
     steps: &mut Steps<L>,
     ready: &mut PreparedExpr,
 ) -> Result<(), NoMemory>
-    requires { HasKind segment.now kind }
+    requires known { HasKind segment.now kind }
+    requires spans { AreSpansKnown segment.now known.old }
+    ensures spans { AreSpansKnown segment.now known.new }
     ensures ready { OnOk result ((place : TagPlace) → AddsReady segment.now [] (record { place = place; kind = kind; test = q.Any } ∷ []) ready.old ready.new) }
     ensures texts { patterns.new ≡ patterns.old }
     ensures rises { steps.old ≤ steps.new }
 {
-    let spans = spans_of_kind(alloc, segment, kind, patterns, steps)?;
+    let spans = spans_of_kind(alloc, segment, kind, patterns, known, steps)?;
     ready.tags.push(spans)
 }

@@ -16,11 +16,12 @@ ghost use Rattle.mt_prepare.specs.Sighted.{tag_kinds, IsRowOfResolved, IsSighted
 use crate::known_rows::KnownRows;
 use crate::prepared::PreparedExpr;
 use crate::resolved::Resolved;
+use crate::shared_spans::SharedSpans;
 use crate::tag_rows::TagRows;
 use crate::test_rows::row_of;
 use crate::view::TextView;
 use mt_automaton::Pool;
-use mt_base::{List, NoMemory, Span, Steps};
+use mt_base::{NoMemory, Steps};
 use mt_cql::Expr;
 use mt_places::Places;
 use mt_segment::Segment;
@@ -170,7 +171,7 @@ fn enter_all(
     segment: &Segment,
     text: u32,
     kinds: &[u16],
-    spans: &[List<Span>],
+    spans: &[SharedSpans],
 ) -> Result<(), NoMemory>
     requires text { text < length segment.now.texts }
     requires kinds { All (HasKind segment.now) kinds.now }

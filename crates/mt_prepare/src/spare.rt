@@ -3,6 +3,7 @@
 ghost use Rattle.std.specs.Prelude.{◌≡◌, [], IfOk};
 
 use crate::prepared::{Prepared, PreparedExpr};
+use crate::shared_spans::SharedSpans;
 use mt_base::{List, NoMemory, Span};
 use std::alloc::Global;
 
@@ -17,7 +18,7 @@ const MOST_LISTS: usize = 16;
 #[derive(Drop)]
 pub(crate) struct Spare {
     spans: Vec<Vec<Span>>,
-    tags: Vec<Vec<List<Span>>>,
+    tags: Vec<Vec<SharedSpans>>,
 }
 
 impl Spare {
@@ -40,7 +41,11 @@ impl Spare {
     }
 
     /// A list for the spans of so many tags. For none it takes no memory, and leaves what is kept to another expression of the query.
-    pub(crate) fn tags(&mut self, alloc: Global, count: usize) -> Result<List<List<Span>>, NoMemory>
+    pub(crate) fn tags(
+        &mut self,
+        alloc: Global,
+        count: usize,
+    ) -> Result<List<SharedSpans>, NoMemory>
         ensures { IfOk result (λ tags. tags ≡ []) }
     {
         if count == 0 {
@@ -60,11 +65,14 @@ impl Spare {
         }
     }
 
-    /// Takes the lists of an expression.
+    /// Takes the lists of an expression. Spans that another tag shares are left to it.
     fn take_expr(&mut self, expr: PreparedExpr) {
         let mut tags = expr.tags.into_vec();
         while let Some(spans) = tags.pop() {
-            keep(&mut self.spans, spans.into_vec());
+            match spans.into_list() {
+                Some(list) => keep(&mut self.spans, list.into_vec()),
+                None => {}
+            }
         }
         keep(&mut self.tags, tags);
     }

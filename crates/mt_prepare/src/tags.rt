@@ -10,10 +10,13 @@ ghost use Rattle.mt_match_spec.specs.Rows.{ListsAll};
 ghost use Rattle.mt_eval_spec.specs.Asked.{test_patterns};
 ghost use Rattle.mt_prepare.specs.Asks.{HasKind, TestStands};
 ghost use Rattle.mt_prepare.specs.Judges.{AddsFound, IsFound, IsFoundBelow};
+ghost use Rattle.mt_prepare.specs.KnownSpans.{AreSpansKnown};
 ghost use Rattle.mt_prepare.specs.Resolved.{AreSpansOf};
 
 use super::judges::{Judge, judge_of};
+use super::known_spans::KnownSpans;
 use super::patterns::Patterns;
+use super::shared_spans::SharedSpans;
 use mt_base::{List, NoMemory, Span, Steps, StructSpan};
 use mt_cql::Test;
 use mt_pattern::PatternShop;
@@ -29,11 +32,14 @@ pub(crate) fn spans_of_tag<P: PatternShop, L: Ledger>(
     test: &Test,
     patterns: &mut Patterns<P>,
     asked: &mut usize,
+    known: &mut KnownSpans,
     shop: &mut P,
     steps: &mut Steps<L>,
-) -> Result<List<Span>, NoMemory>
+) -> Result<SharedSpans, NoMemory>
     requires known { HasKind segment.now kind }
     requires stands { TestStands patterns.old asked.old (test_shape test.now) }
+    requires spans { AreSpansKnown segment.now known.old }
+    ensures listed { AreSpansKnown segment.now known.new }
     ensures spans { IfOk result (λ spans. AreSpansOf segment.now (record { kind = kind; test = test_shape test.now }) spans) }
     ensures asked { OnOk result (asked.new ≡ asked.old + length (test_patterns (test_shape test.now))) }
     ensures texts { patterns.new ≡ patterns.old }
@@ -41,8 +47,11 @@ pub(crate) fn spans_of_tag<P: PatternShop, L: Ledger>(
     ensures rises { steps.old ≤ steps.new }
 {
     match test {
-        Test::Any => spans_of_kind(alloc, segment, kind, patterns, steps),
-        _ => spans_judged(alloc, segment, kind, test, patterns, asked, shop, steps),
+        Test::Any => spans_of_kind(alloc, segment, kind, patterns, known, steps),
+        _ => {
+            let spans = spans_judged(alloc, segment, kind, test, patterns, asked, shop, steps)?;
+            SharedSpans::new(alloc, spans)
+        }
     }
 }
 
@@ -70,8 +79,33 @@ fn spans_judged<P: PatternShop, L: Ledger>(
     spans_of(spans, segment, kind, &judge, steps)
 }
 
-/// The spans of all instances of a kind in a segment.
+/// The spans of all instances of a kind in a segment. Those that are known are not listed again.
 pub(crate) fn spans_of_kind<P: PatternShop, L: Ledger>(
+    alloc: Global,
+    segment: &Segment,
+    kind: u16,
+    patterns: &mut Patterns<P>,
+    known: &mut KnownSpans,
+    steps: &mut Steps<L>,
+) -> Result<SharedSpans, NoMemory>
+    requires known { HasKind segment.now kind }
+    requires spans { AreSpansKnown segment.now known.old }
+    ensures listed { AreSpansKnown segment.now known.new }
+    ensures spans { IfOk result (λ spans. AreSpansOf segment.now (record { kind = kind; test = q.Any }) spans) }
+    ensures texts { patterns.new ≡ patterns.old }
+    ensures rises { steps.old ≤ steps.new }
+{
+    if let Some(spans) = known.find(kind) {
+        return spans.share();
+    }
+    let spans = list_kind(alloc, segment, kind, patterns, steps)?;
+    let shared = SharedSpans::new(alloc, spans)?;
+    known.keep(kind, &shared);
+    Ok(shared)
+}
+
+/// Lists the spans of all instances of a kind in a segment.
+fn list_kind<P: PatternShop, L: Ledger>(
     alloc: Global,
     segment: &Segment,
     kind: u16,

@@ -8,9 +8,9 @@ ghost use Rattle.mt_eval_spec.specs.Told.{told_tokens};
 ghost use Rattle.mt_automaton.specs.Compiled.{IsSeenFor};
 ghost use Rattle.mt_prepare.specs.Viewed.{Viewed, Shows, seen_of};
 
+use crate::shared_spans::SharedSpans;
 use crate::tag_rows::{TagRows, last_end, longer_end};
 use mt_automaton::{Mark, View};
-use mt_base::{List, Span};
 use mt_cql::Expr;
 use mt_places::{Below, Marks, Places};
 use mt_segment::Segment;
@@ -26,7 +26,7 @@ pub struct TextView<'a> {
     first: u32,
     tokens: u32,
     tests: &'a [Places],
-    spans: &'a [List<Span>],
+    spans: &'a [SharedSpans],
     rows: &'a [TagRows],
 }
 
@@ -51,7 +51,7 @@ impl<'a> TextView<'a> {
         expr: &'a Expr,
         text: u32,
         tests: &'a [Places],
-        spans: &'a [List<Span>],
+        spans: &'a [SharedSpans],
         rows: &'a [TagRows],
     ) -> Self
         requires text { text < length segment.now.texts }

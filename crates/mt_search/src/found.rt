@@ -22,7 +22,7 @@ use mt_cql::Query;
 use mt_decode_laws::live_texts_are_numbered;
 use mt_eval::{Scratch, eval};
 use mt_pattern::PatternShop;
-use mt_prepare::Patterns;
+use mt_prepare::{KnownSpans, Patterns};
 use mt_rows::{EvalError, Rows};
 use mt_segment::Segment;
 use std::alloc::Global;
@@ -85,7 +85,8 @@ impl Found {
         kept_are_joined();
         rows_are_joined();
         live_texts_are_numbered();
-        let prepared = patterns.prepare(alloc, query, segment, shop, steps)?;
+        let mut spans = KnownSpans::new(alloc);
+        let prepared = patterns.prepare(alloc, query, segment, &mut spans, shop, steps)?;
         let rows = eval(
             alloc,
             query,

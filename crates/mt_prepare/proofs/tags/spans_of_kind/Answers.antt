@@ -1,7 +1,7 @@
-use Rattle.mt_text_spec.specs.Queries as q
-use Rattle.mt_prepare.specs.declared.judges.Judge.TheVariants as judge
-use Rattle.mt_prepare.proofs.Found.{tag_listed}
 use Rattle.mt_prepare.proofs.tags.spans_of_kind.Goals as goal
 
+pub returns-clause-listed : goal.returns-clause-listed
+returns-clause-listed g c = c.keep.ensures.known c.args.segment.now c.requires.spans (rw c.in_ok-shared.ensures c.in_ok-spans.ensures.spans)
+
 pub returns-clause-spans : goal.returns-clause-spans
-returns-clause-spans g c = tag_listed c.spans_of.result c.args.segment.now (record { kind = c.args.kind; test = q.Any }) judge.Any (λ span there. (λ u. u, λ u. u)) c.spans_of.ensures.spans
+returns-clause-spans g c = rw c.in_ok-shared.ensures c.in_ok-spans.ensures.spans
