@@ -60,7 +60,7 @@ pub(crate) fn take_rows<L: Ledger>(
     Ok(rows)
 }
 
-/// Keeps the rows that a filter lets pass, by the spans of its operand.
+/// Keeps the rows that a filter lets pass, by the spans of its operand. Where there are no rows, it looks at none of these.
 fn filter(
     rows: &mut RowList,
     kind: FilterKind,
@@ -70,6 +70,9 @@ fn filter(
     requires { IsStrictlySortedBy span_cmp operand.now }
     ensures { OnOk result (ListsAll row_cmp (λ row. Contains rows.old row × Passes (kind_shape kind) (Contains operand.now) row.span) rows.new) }
 {
+    if rows.is_empty() {
+        return Ok(());
+    }
     match kind {
         FilterKind::Within => rows.keep_within(operand, false, marks),
         FilterKind::NotWithin => rows.keep_within(operand, true, marks),
