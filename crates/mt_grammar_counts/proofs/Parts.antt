@@ -1,9 +1,9 @@
 -- Lists, and lists that are made of the parts of their items, as far as a loop has gone.
-use Rattle.std.proofs.Common.{◌≡◌, ℕ, zero, suc, ◌+◌, ◌-◌, ◌<◌, ◌≤◌, ◌⊎◌, inl, inr, List, [], ◌∷◌, ◌++◌, length, length-append, map, take, get_or, refl, sym, ◌∙◌, ap, subst, append_assoc, arith}
-use Rattle.std.specs.List.{All, AllZip, Contains, flat_map}
+use Rattle.std.proofs.Common.{◌≡◌, ℕ, zero, suc, ◌+◌, ◌-◌, ◌<◌, ◌≤◌, ◌⊎◌, inl, inr, List, [], ◌∷◌, ◌++◌, length, length-append, map, take, drop, get_or, refl, sym, ◌∙◌, ap, subst, append_assoc, arith}
+use Rattle.std.specs.List.{All, AllZip, Contains, flat_map, slice_range}
 use Rattle.std.proofs.lemmas.Bool.{cases_lt}
 use Rattle.std.proofs.lemmas.Grind.{flat_map-append}
-use Rattle.std.proofs.lemmas.List.{append-nil, get_or_append_left, get_or-append-add, get_or-map, length-map, map-append, take_all, take_more}
+use Rattle.std.proofs.lemmas.List.{append-nil, drop-take, get_or_append_left, get_or-append-add, get_or-map, length-map, map-append, take_all, take_more}
 use Rattle.std.proofs.lemmas.Slice.Zip.{all_zipped_more}
 
 -- ---- what stands in a list
@@ -73,6 +73,18 @@ module _ {X Y : Type 0} (R : X → Y → Type 0) where
   -- one pair more
   pub pair_more : (xs : List X) (ys new : List Y) (i : ℕ) (x : X) (y : Y) → i < length xs → x ≡ get_or xs i x → new ≡ ys ++ y ∷ [] → AllZip R (take i xs) ys → R x y → AllZip R (take (i + 1) xs) new
   pair_more xs ys new i x y l e is all one = subst (λ zs. AllZip R zs new) (sym (one_more xs i x l e)) (subst (λ zs. AllZip R (take i xs ++ x ∷ []) zs) (sym is) (all_zipped_more R (take i xs) ys x y all one))
+
+  -- the same behind others
+  pub behind_more : (before xs : List X) (ys new : List Y) (i : ℕ) (x : X) (y : Y) → i < length xs → x ≡ get_or xs i x → new ≡ ys ++ y ∷ [] → AllZip R (before ++ take i xs) ys → R x y → AllZip R (before ++ take (i + 1) xs) new
+  behind_more before xs ys new i x y l e is all one =
+      subst (λ zs. AllZip R zs new) (append_assoc before (take i xs) (x ∷ []) ∙ ap (λ zs. before ++ zs) (sym (one_more xs i x l e)))
+      (subst (λ zs. AllZip R ((before ++ take i xs) ++ x ∷ []) zs) (sym is) (all_zipped_more R (before ++ take i xs) ys x y all one))
+
+  -- Two lists go together where each is joined of two, of which the first ones are of one length: so do the parts.
+  pub both_parts : (xs us : List X) (ys : List Y) → AllZip R (xs ++ us) ys → AllZip R xs (take (length xs) ys) × AllZip R us (drop (length xs) ys)
+  both_parts [] us ys all = (tt, all)
+  both_parts (x ∷ xs) us [] all = absurd all
+  both_parts (x ∷ xs) us (y ∷ ys) all = let more = both_parts xs us ys all.1 in ((all.0, more.0), more.1)
 
 -- ---- lists that are mapped
 
@@ -150,6 +162,19 @@ module _ {X Y : Type 0} (f : X → List Y) where
   part_fits xs i x l e =
       let parts = parts_at xs i x l e in
       omega (arith, ap length parts.split, length-append (flat_map f (take i xs) ++ f x) parts.behind, length-append (flat_map f (take i xs)) (f x))
+
+-- the parts of a list that goes together with such a one
+module _ {X Y Z : Type 0} (f : X → List Y) (R : Y → Z → Type 0) where
+  pub part_zipped : (xs : List X) (zs part : List Z) (i from : ℕ) (x : X) → i < length xs → x ≡ get_or xs i x → from ≡ length (flat_map f (take i xs)) → part ≡ slice_range zs from (from + length (f x)) → AllZip R (flat_map f xs) zs → AllZip R (f x) part
+  part_zipped xs zs part i from x l e at is all =
+      let before = flat_map f (take i xs) in
+      let parts = parts_at f xs i x l e in
+      let joined = both_parts R (before ++ f x) parts.behind zs (subst (λ ys. AllZip R ys zs) parts.split all) in
+      let own = (both_parts R before (f x) (take (length (before ++ f x)) zs) joined.0).1 in
+      let rest : length (f x) ≡ length before + length (f x) - length before = omega arith in
+      let cut : drop (length before) (take (length (before ++ f x)) zs) ≡ part =
+      ap (λ n. drop (length before) (take n zs)) (length-append before (f x)) ∙ drop-take (length before) (length (f x)) zs ∙ ap (λ n. take n (drop (length before) zs)) rest ∙ ap (λ n. slice_range zs n (n + length (f x))) (sym at) ∙ sym is in
+      subst (AllZip R (f x)) cut own
 
 -- parts of parts
 pub parts_of_parts : {X Y Z : Type 0} (f : Y → List Z) (g : X → List Y) (xs : List X) → flat_map f (flat_map g xs) ≡ flat_map (λ x. flat_map f (g x)) xs

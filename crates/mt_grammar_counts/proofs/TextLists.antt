@@ -1,5 +1,5 @@
 -- Texts of a segment that are counted one after another.
-use Rattle.std.proofs.Common.{◌≡◌, ℕ, ◌+◌, ◌<◌, ◌≤◌, ◌⊎◌, inl, inr, List, [], ◌∷◌, ◌++◌, length, take, get_or, slice_get, slice_index, Some, sym, ◌∙◌, ap, append_assoc, arith}
+use Rattle.std.proofs.Common.{◌≡◌, ℕ, ◌+◌, ◌<◌, ◌≤◌, ◌⊎◌, inl, inr, List, [], ◌∷◌, ◌++◌, length, take, get_or, slice_get, slice_index, None, Some, sym, ◌∙◌, ap, append_assoc, arith}
 use Rattle.std.proofs.lemmas.Bool.{cases_lt}
 use Rattle.std.proofs.lemmas.List.{get_or_append_left, get_or_push, length_push, take_all}
 use Rattle.std.proofs.lemmas.List.Sums.{sum-map, sum_by_more}
@@ -7,7 +7,7 @@ use Rattle.std.proofs.lemmas.Option.{slice_get-get_or, get_or_from_slice_get}
 use Rattle.mt_text_spec.specs.Registries.{Registry}
 use Rattle.mt_text_spec.specs.Texts.{Text}
 use Rattle.mt_match_spec.specs.Values.{Images}
-use Rattle.mt_segment_spec.specs.Tables.{Tables, first_place, number_at, tables_at}
+use Rattle.mt_segment_spec.specs.Tables.{Tables, first_place, number_at, number_by, tables_at}
 use Rattle.mt_eval_spec.specs.Told.{told_tokens}
 use Rattle.mt_instances.specs.Collected.{Collected}
 use Rattle.mt_grammar_counts.specs.Collecting.{Knows}
@@ -31,6 +31,10 @@ numbers_more f old new n begin place is at own each k l = by (cases_lt k (length
         let last : length old ≡ k = omega (arith, high, l, ap length is, length_push old n) in
         let here : place ≡ begin + k = omega (arith, at, last) in
         ap (λ (ns : List ℕ). get_or ns k 0) is ∙ get_or_push old n 0 k last ∙ own ∙ ap f here
+
+-- a number that stands in the column of a base attribute is the one at the place
+pub base_number : (tables : Tables) (attr place n : ℕ) → (tables_at tables.attrs attr).base ≡ None → n ≡ slice_index (tables_at tables.attrs attr).numbers place → n ≡ number_at tables attr place
+base_number tables attr place n none is = is ∙ ap (number_by (tables_at tables.attrs attr).numbers tables.attrs place) (sym none)
 
 pub known_whole : (tables : Tables) (attr number begin end place : ℕ) (collected : Collected) → number < length tables.texts → begin ≡ first_place tables number → end ≡ first_place tables (number + 1) → end ≤ place → place ≤ end →
     collected.lexicon ≡ (tables_at tables.attrs attr).lexicon → begin + length collected.numbers ≡ place → ((k : ℕ) → k < length collected.numbers → slice_index collected.numbers k ≡ number_at tables attr (begin + k)) →

@@ -25,9 +25,9 @@ all_lines grammar = flat_map lines_of grammar.relations
 abbrev pub IsReadyRelation : Tables → Relation → List Prepared → Type 0
 IsReadyRelation tables relation prepared = AllZip (IsPrepared tables) relation.queries prepared
 
--- and those of all relations
-abbrev pub IsReadyGrammar : Tables → Grammar → List (List Prepared) → Type 0
-IsReadyGrammar tables grammar prepared = AllZip (IsReadyRelation tables) grammar.relations prepared
+-- and those of all relations, one relation after another
+abbrev pub IsReadyGrammar : Tables → Grammar → List Prepared → Type 0
+IsReadyGrammar tables grammar prepared = AllZip (IsPrepared tables) (flat_map (λ relation. relation.queries) grammar.relations) prepared
 
 -- nothing is known yet of the next text, whose values of an attribute are those of the segment
 pub record IsFresh (tables : Tables) (attr : ℕ) (collected : Collected) : Type 0 where

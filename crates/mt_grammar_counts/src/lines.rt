@@ -26,7 +26,7 @@ use std::sync::ledger::Ledger;
 fn add_relation<L: Ledger>(
     alloc: Global,
     relation: &Relation,
-    prepared: &List<Prepared>,
+    prepared: &[Prepared],
     text: &TextOf<'_>,
     collector: &mut Collector<'_>,
     scratch: &mut Scratch,
@@ -50,9 +50,15 @@ fn add_relation<L: Ledger>(
     let queries = relation.queries();
     for i in 0..queries.len() {
         let query = queries.get(i);
-        let ready = prepared.get(i);
         add_query(
-            alloc, relation, query, ready, text, collector, scratch, steps,
+            alloc,
+            relation,
+            query,
+            &prepared[i],
+            text,
+            collector,
+            scratch,
+            steps,
         )?;
     }
     Ok(())
@@ -62,7 +68,7 @@ fn add_relation<L: Ledger>(
 pub(crate) fn add_lines<L: Ledger>(
     alloc: Global,
     grammar: &Grammar,
-    prepared: &List<List<Prepared>>,
+    prepared: &[Prepared],
     text: &TextOf<'_>,
     collector: &mut Collector<'_>,
     scratch: &mut Scratch,
@@ -84,10 +90,13 @@ pub(crate) fn add_lines<L: Ledger>(
         → IsErrOf result CountError.TooManyRows → HasNoRoom images text.now.registry.now grammar.now (of ∷ []) }
 {
     let relations = grammar.relations();
+    let mut from = 0;
     for i in 0..relations.len() {
         let relation = relations.get(i);
-        let ready = prepared.get(i);
+        let behind = from + relation.queries().len();
+        let ready = &prepared[from..behind];
         add_relation(alloc, relation, ready, text, collector, scratch, steps)?;
+        from = behind;
     }
     Ok(())
 }

@@ -92,7 +92,7 @@ pub(crate) fn add_segment<'a, P: PatternShop, L: Ledger>(
         alloc,
         registry,
         grammar,
-        &prepared,
+        prepared.as_slice(),
         segment,
         numbers,
         collector,

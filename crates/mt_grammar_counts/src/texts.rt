@@ -1,11 +1,11 @@
 //! Counting texts of a segment, one after another.
 
-ghost use Rattle.std.specs.Prelude.{◌≡◌, ℕ, [], ◌∷◌, ◌++◌, ◌<◌, length, List as Items, OnOk, IsErrOf};
+ghost use Rattle.std.specs.Prelude.{◌≡◌, ℕ, [], ◌∷◌, ◌++◌, ◌<◌, length, List as Items, None, OnOk, IsErrOf};
 ghost use Rattle.std.specs.List.{All};
 ghost use Rattle.mt_text_spec.specs.Texts as texts;
 ghost use Rattle.mt_match_spec.specs.Values.{Images};
 ghost use Rattle.mt_count_spec.specs.Counts.{HasRoom};
-ghost use Rattle.mt_segment_spec.specs.Tables.{AreTablesUnder};
+ghost use Rattle.mt_segment_spec.specs.Tables.{AreTablesUnder, tables_at};
 ghost use Rattle.mt_eval.specs.Runs.{AreTexts};
 ghost use Rattle.mt_prepare.specs.KnownRows.{AreKnownIn};
 ghost use Rattle.mt_triples.specs.CountsOf.{AreCountsOf};
@@ -20,7 +20,7 @@ use mt_grammar::Grammar;
 use mt_instances::{Collector, none_are_given, text_is_counted};
 use mt_prepare::Prepared;
 use mt_segment::Segment;
-use mt_segment_laws::{numbers_stand_for_values, tokens_stand_in_texts};
+use mt_segment_laws::{numbers_stand_for_values, tables_are_whole, tokens_stand_in_texts};
 use std::alloc::Global;
 use std::sync::ledger::Ledger;
 
@@ -37,6 +37,51 @@ fn add_places<L: Ledger>(
     ensures counted { collector.new.counted ≡ collector.old.counted }
 {
     let attr = text.registry.ws_attr();
+    match text.segment.base(attr) {
+        None => add_base_places(text, attr, collector, steps),
+        Some(_) => add_mapped_places(text, attr, collector, steps),
+    }
+}
+
+/// The same, where the attribute is a base attribute: from its column.
+fn add_base_places<L: Ledger>(
+    text: &TextOf<'_>,
+    attr: u16,
+    collector: &mut Collector<'_>,
+    steps: &mut Steps<L>,
+) -> Result<(), NoMemory>
+    requires text { IsTextIn text.now.registry.now text.now.segment.now text.now.number text.now.listed.now }
+    requires fresh { IsFresh text.now.segment.now text.now.registry.now.ws_attr collector.old }
+    requires attr { attr ≡ text.now.registry.now.ws_attr }
+    requires base { (tables_at text.now.segment.now.attrs attr).base ≡ None }
+    ensures known { OnOk result (Knows text.now.segment.now text.now.registry.now.ws_attr text.now.number collector.new) }
+    ensures given { OnOk result (collector.new.given ≡ []) }
+    ensures counted { collector.new.counted ≡ collector.old.counted }
+{
+    tables_are_whole();
+    let column = text.segment.column(attr);
+    let (begin, end) = text.segment.text_bounds(text.number);
+    for place in begin..end {
+        let number = column.get(place, steps);
+        collector.add_place(number)?;
+    }
+    Ok(())
+}
+
+/// The same, where it is a mapped attribute: each number by that of its base.
+fn add_mapped_places<L: Ledger>(
+    text: &TextOf<'_>,
+    attr: u16,
+    collector: &mut Collector<'_>,
+    steps: &mut Steps<L>,
+) -> Result<(), NoMemory>
+    requires text { IsTextIn text.now.registry.now text.now.segment.now text.now.number text.now.listed.now }
+    requires fresh { IsFresh text.now.segment.now text.now.registry.now.ws_attr collector.old }
+    requires attr { attr ≡ text.now.registry.now.ws_attr }
+    ensures known { OnOk result (Knows text.now.segment.now text.now.registry.now.ws_attr text.now.number collector.new) }
+    ensures given { OnOk result (collector.new.given ≡ []) }
+    ensures counted { collector.new.counted ≡ collector.old.counted }
+{
     let (begin, end) = text.segment.text_bounds(text.number);
     for place in begin..end {
         let number = text.segment.value_id(attr, place, steps);
@@ -49,7 +94,7 @@ fn add_places<L: Ledger>(
 fn add_text<L: Ledger>(
     alloc: Global,
     grammar: &Grammar,
-    prepared: &List<List<Prepared>>,
+    prepared: &[Prepared],
     text: &TextOf<'_>,
     collector: &mut Collector<'_>,
     scratch: &mut Scratch,
@@ -93,7 +138,7 @@ fn add_number<L: Ledger>(
     alloc: Global,
     registry: &Registry,
     grammar: &Grammar,
-    prepared: &List<List<Prepared>>,
+    prepared: &[Prepared],
     segment: &Segment,
     number: u32,
     collector: &mut Collector<'_>,
@@ -129,7 +174,7 @@ pub(crate) fn add_texts<L: Ledger>(
     alloc: Global,
     registry: &Registry,
     grammar: &Grammar,
-    prepared: &List<List<Prepared>>,
+    prepared: &[Prepared],
     segment: &Segment,
     numbers: &[u32],
     collector: &mut Collector<'_>,

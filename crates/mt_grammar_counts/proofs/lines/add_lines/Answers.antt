@@ -1,28 +1,52 @@
-use Rattle.std.proofs.Common.{rules, ◌<◌, ◌∙◌, List, [], ◌∷◌, length, get_or, Err, IsErrOf, sym, ap, subst, arith}
+use Rattle.std.proofs.Common.{rules, ◌≡◌, ◌+◌, ◌<◌, ◌≤◌, ◌∙◌, List, [], ◌∷◌, length, length-append, take, get_or, Err, IsErrOf, refl, sym, ap, subst, arith}
+use Rattle.std.specs.List.{flat_map, slice_range}
 use Rattle.mt_text_spec.specs.Texts.{Text}
-use Rattle.mt_text_spec.specs.Queries.{Relation}
+use Rattle.mt_text_spec.specs.Queries.{Query, Relation}
 use Rattle.mt_match_spec.specs.Values.{Images}
 use Rattle.mt_instances.specs.Laws.{AreOfLines, Line}
-use Rattle.mt_grammar_counts.specs.Collecting.{IsReadyRelation, lines_of}
+use Rattle.mt_prepare.specs.Prepared.{IsPrepared}
+use Rattle.mt_grammar_counts.specs.Collecting.{lines_of}
 use Rattle.mt_grammar_counts.specs.Told.{AllFit, HasNoRoom, Tells}
 use Rattle.mt_grammar_counts.specs.declared.error.CountError.{CountError}
 use Rattle.mt_grammar_counts.specs.declared.error.CountError.TheVariants.{TooManyRows}
-use Rattle.mt_grammar_counts.proofs.Parts.{all_at, as_long, both_at, parts_more, parts_whole}
+use Rattle.mt_grammar_counts.proofs.Parts.{all_at, as_long, part_fits, part_zipped, parts_more, parts_whole}
 use Rattle.mt_grammar_counts.proofs.LineLists.{all_more, all_none, all_room, gives_more, gives_none, no_room_at, still_known}
+use Rattle.mt_grammar_counts.proofs.lines.add_lines.Goals.{After-len}
+use Rattle.mt_grammar_counts.proofs.lines.add_lines.Given as given
 use Rattle.mt_grammar_counts.proofs.lines.add_lines.Goals as goal
+
+-- the queries of a relation
+abbrev queries_of : Relation → List Query
+queries_of relation = relation.queries
 
 pub loop-i-init : goal.loop-i-init
 loop-i-init g c = record {
   only = gives_none c.args.collector.now;
+  from = refl;
   given = λ images of tells before. before;
   rows = c.requires.rows;
   fit = λ images of tells. all_none images c.args.text.now.registry.now of;
 }
 
-pub get-ready-requires : goal.get-ready-requires
-get-ready-requires g c =
-    let long = as_long (IsReadyRelation c.args.text.now.segment.now) c.args.grammar.now.relations c.args.prepared.now c.requires.prepared in
-    omega (arith, long, c.loop-i-test.true, c.len-i-end.ensures, ap length c.relations-relations.ensures)
+-- the queries of the relation and of those before it are not more than are ready
+inside : (g : given.Over) (c : After-len g) → c.loop-i.from + c.len.result ≤ length c.args.prepared.now
+inside g c =
+    let all = c.args.grammar.now.relations in
+    let r = c.get-relation.result.now in
+    let i = c.loop-i.i in
+    let l : i < length all = omega (arith, c.loop-i-test.true, c.len-i-end.ensures, ap length c.relations-relations.ensures) in
+    let fits = part_fits queries_of all i r l (c.get-relation.ensures ∙ ap (λ (rs : List Relation). get_or rs i r) c.relations-relations.ensures) in
+    let long = as_long (IsPrepared c.args.text.now.segment.now) (flat_map queries_of all) c.args.prepared.now c.requires.prepared in
+    omega (arith, fits, long, c.loop-i.invariant.from, c.len.ensures, ap length c.queries.ensures)
+
+pub overflow_add-behind : goal.overflow_add-behind
+overflow_add-behind g c = omega (arith, inside g (goal.at.overflow_add-behind g c).After-len)
+
+pub offset_bounds-prepared-from : goal.offset_bounds-prepared-from
+offset_bounds-prepared-from g c = omega (arith, inside g (goal.at.offset_bounds-prepared-from g c).After-len)
+
+pub slice_bounds-ready-end : goal.slice_bounds-ready-end
+slice_bounds-ready-end g c = inside g (goal.at.slice_bounds-ready-end g c).After-len
 
 pub add_relation-requires-clause-fit : goal.add_relation-requires-clause-fit
 add_relation-requires-clause-fit g c =
@@ -36,8 +60,10 @@ add_relation-requires-clause-prepared g c =
     let all = c.args.grammar.now.relations in
     let r = c.get-relation.result.now in
     let i = c.loop-i.i in
-    both_at (IsReadyRelation c.args.text.now.segment.now) all c.args.prepared.now i r c.get-ready.result.now c.requires.prepared (omega (arith, c.loop-i-test.true, c.len-i-end.ensures, ap length c.relations-relations.ensures))
-    (c.get-relation.ensures ∙ ap (λ (rs : List Relation). get_or rs i r) c.relations-relations.ensures) c.get-ready.ensures
+    let l : i < length all = omega (arith, c.loop-i-test.true, c.len-i-end.ensures, ap length c.relations-relations.ensures) in
+    let count : c.len.result ≡ length r.queries = omega (arith, c.len.ensures, ap length c.queries.ensures) in
+    part_zipped queries_of (IsPrepared c.args.text.now.segment.now) all c.args.prepared.now (slice_range c.args.prepared.now c.loop-i.from (c.loop-i.from + c.len.result)) i c.loop-i.from r l (c.get-relation.ensures ∙ ap (λ (rs : List Relation). get_or rs i r) c.relations-relations.ensures) c.loop-i.invariant.from
+    (ap (λ n. slice_range c.args.prepared.now c.loop-i.from (c.loop-i.from + n)) count) c.requires.prepared
 
 pub add_relation-requires-clause-known : goal.add_relation-requires-clause-known
 add_relation-requires-clause-known g c = still_known c.args.text.now.segment.now c.args.text.now.registry.now.ws_attr c.args.text.now.number c.args.collector.now c.loop-i.collector c.loop-i.invariant.only c.requires.known
@@ -67,6 +93,7 @@ loop-i-preserved g c =
     let at = c.get-relation.ensures ∙ ap (λ (rs : List Relation). get_or rs i r) c.relations-relations.ensures in
     record {
       only = gives_more c.args.collector.now c.loop-i.collector c.add_relation.new.collector c.loop-i.invariant.only c.add_relation.ensures.only;
+      from = omega (arith, ap length (parts_more queries_of all i r l at), length-append (flat_map queries_of (take i all)) r.queries, c.loop-i.invariant.from, c.len.ensures, ap length c.queries.ensures);
       given = λ images of tells before.
           subst (λ (ls : List Line). AreOfLines images text.registry.now of ls c.add_relation.new.collector.given) (sym (parts_more lines_of all i r l at))
           (c.in_ok-add_relation.ensures.given images of _ tells (c.loop-i.invariant.given images of tells before));

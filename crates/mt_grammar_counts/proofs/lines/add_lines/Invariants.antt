@@ -1,5 +1,5 @@
 -- The rows of the queries of the relations so far are told.
-use Rattle.std.proofs.Common.{[], take}
+use Rattle.std.proofs.Common.{◌≡◌, [], length, take}
 use Rattle.std.specs.List.{flat_map}
 use Rattle.mt_text_spec.specs.Texts.{Text}
 use Rattle.mt_match_spec.specs.Values.{Images}
@@ -15,6 +15,7 @@ invariant-loop-i g l = record {
   only : OnlyGives l.initial.collector l.collector;
   given : (images : Images) (of : Text) → Tells images l.text.registry.now l.text.segment.now l.text.number of → AreOfLines images l.text.registry.now of [] l.initial.collector.given →
       AreOfLines images l.text.registry.now of (flat_map lines_of (take l.i l.grammar.relations)) l.collector.given;
+  from : l.from ≡ length (flat_map (λ relation. relation.queries) (take l.i l.grammar.relations));
   rows : AreKnownIn l.text.segment.now l.scratch.lists.known;
   fit : (images : Images) (of : Text) → Tells images l.text.registry.now l.text.segment.now l.text.number of → AllOf images l.text.registry.now of (take l.i l.grammar.relations);
 }

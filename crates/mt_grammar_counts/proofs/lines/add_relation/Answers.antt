@@ -21,8 +21,13 @@ loop-i-init g c = record {
   fit = λ images of tells. fit_none images c.args.text.now.registry.now of;
 }
 
-pub get-ready-requires : goal.get-ready-requires
-get-ready-requires g c =
+pub bounds-prepared-i : goal.bounds-prepared-i
+bounds-prepared-i g c =
+    let long = as_long (IsPrepared c.args.text.now.segment.now) c.args.relation.now.queries c.args.prepared.now c.requires.prepared in
+    omega (arith, long, c.loop-i-test.true, c.len-i-end.ensures, ap length c.queries-queries.ensures)
+
+pub offset_bounds-prepared-i : goal.offset_bounds-prepared-i
+offset_bounds-prepared-i g c =
     let long = as_long (IsPrepared c.args.text.now.segment.now) c.args.relation.now.queries c.args.prepared.now c.requires.prepared in
     omega (arith, long, c.loop-i-test.true, c.len-i-end.ensures, ap length c.queries-queries.ensures)
 
@@ -38,8 +43,8 @@ add_query-requires-clause-prepared g c =
     let all = c.args.relation.now.queries in
     let q = c.get-query.result.now in
     let i = c.loop-i.i in
-    both_at (IsPrepared c.args.text.now.segment.now) all c.args.prepared.now i q c.get-ready.result.now c.requires.prepared (omega (arith, c.loop-i-test.true, c.len-i-end.ensures, ap length c.queries-queries.ensures))
-    (c.get-query.ensures ∙ ap (λ (qs : List Query). get_or qs i q) c.queries-queries.ensures) c.get-ready.ensures
+    both_at (IsPrepared c.args.text.now.segment.now) all c.args.prepared.now i q c.index-prepared-i.result c.requires.prepared (omega (arith, c.loop-i-test.true, c.len-i-end.ensures, ap length c.queries-queries.ensures))
+    (c.get-query.ensures ∙ ap (λ (qs : List Query). get_or qs i q) c.queries-queries.ensures) c.index-prepared-i.is
 
 pub add_query-requires-clause-known : goal.add_query-requires-clause-known
 add_query-requires-clause-known g c = still_known c.args.text.now.segment.now c.args.text.now.registry.now.ws_attr c.args.text.now.number c.args.collector.now c.loop-i.collector c.loop-i.invariant.only c.requires.known

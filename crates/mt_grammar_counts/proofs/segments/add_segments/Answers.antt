@@ -1,4 +1,4 @@
-use Rattle.std.proofs.Common.{rules, ◌<◌, ◌∙◌, ◌++◌, List, [], length, take, get_or, Err, IsErrOf, refl, sym, subst, arith}
+use Rattle.std.proofs.Common.{rules, ◌<◌, ◌∙◌, List, [], length, take, get_or, Err, IsErrOf, refl, sym, subst, arith}
 use Rattle.mt_text_spec.specs.Registries.{Registry}
 use Rattle.mt_text_spec.specs.Texts.{Text}
 use Rattle.mt_match_spec.specs.Values.{Images}

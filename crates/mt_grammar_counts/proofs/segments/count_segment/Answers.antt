@@ -1,8 +1,7 @@
-use Rattle.std.proofs.Common.{List, [], Err, sym, ap, subst}
+use Rattle.std.proofs.Common.{[], Err, sym, ap, subst}
 use Rattle.mt_counts.specs.Counted.{Counted}
 use Rattle.mt_triples.specs.CountsOf.{AreCountsOf}
 use Rattle.mt_grammar_counts.specs.declared.error.CountError.TheVariants.{TooManyRows}
-use Rattle.mt_grammar_counts.proofs.GroupLists.{attr_within}
 use Rattle.mt_grammar_counts.proofs.Ending.{nothing_counted, on_err, same_error}
 use Rattle.mt_grammar_counts.proofs.segments.count_segment.Goals as goal
 

@@ -1,33 +1,6 @@
-use Rattle.std.proofs.Common.{◌+◌, ◌∙◌, ℕ, length, ap, arith}
-use Rattle.std.proofs.lemmas.List.{length_push}
-use Rattle.mt_segment_spec.specs.Tables.{number_at, tables_at}
+use Rattle.std.proofs.Common.{arith}
 use Rattle.mt_grammar_counts.proofs.GroupLists.{attr_within}
-use Rattle.mt_grammar_counts.proofs.TextLists.{known_whole, numbers_more}
 use Rattle.mt_grammar_counts.proofs.texts.add_places.Goals as goal
 
-pub value_id-number-requires-clause-attr : goal.value_id-number-requires-clause-attr
-value_id-number-requires-clause-attr g c = let low = attr_within c.args.text.now.registry.now c.args.text.now.segment.now c.requires.text.under in omega (arith, low, c.ws_attr-attr.ensures)
-
-pub add_place-requires : goal.add_place-requires
-add_place-requires g c =
-    let same = ap (λ (a : ℕ). length (tables_at c.args.text.now.segment.now.attrs a).lexicon) c.ws_attr-attr.ensures in
-    omega (arith, c.value_id-number.ensures.within, same, ap length c.loop-place.invariant.lexicon)
-
-pub loop-place-preserved : goal.loop-place-preserved
-loop-place-preserved g c =
-    let more = c.in_ok-add_place.ensures.ok in
-    record {
-      lexicon = c.add_place.ensures.lexicon ∙ c.loop-place.invariant.lexicon;
-      given = c.add_place.ensures.given ∙ c.loop-place.invariant.given;
-      counted = c.add_place.ensures.counted ∙ c.loop-place.invariant.counted;
-      count = omega (arith, c.loop-place.invariant.count, ap length more, length_push c.loop-place.collector.numbers c.value_id-number.result);
-      each = numbers_more (number_at c.args.text.now.segment.now c.ws_attr-attr.result) c.loop-place.collector.numbers c.add_place.new.self.numbers c.value_id-number.result c.text_bounds-begin.result.0 c.loop-place.place more c.loop-place.invariant.count
-          c.value_id-number.ensures.number c.loop-place.invariant.each;
-    }
-
-pub returns-clause-known : goal.returns-clause-known
-returns-clause-known g c =
-    let attr = c.ws_attr-attr.ensures in
-    known_whole c.args.text.now.segment.now c.args.text.now.registry.now.ws_attr c.args.text.now.number c.text_bounds-begin.result.0 c.text_bounds-begin.result.1 c.loop-place.place c.loop-place.collector c.requires.text.within
-    c.text_bounds-begin.ensures.begin c.text_bounds-begin.ensures.end c.loop-place-test.false (c.loop-place.auto.place-end c.text_bounds-begin.ensures.order) c.loop-place.invariant.lexicon c.loop-place.invariant.count
-    (λ k l. c.loop-place.invariant.each k l ∙ ap (λ (a : ℕ). number_at c.args.text.now.segment.now a (c.text_bounds-begin.result.0 + k)) attr)
+pub base-requires : goal.base-requires
+base-requires g c = let low = attr_within c.args.text.now.registry.now c.args.text.now.segment.now c.requires.text.under in omega (arith, low, c.ws_attr-attr.ensures)

@@ -1,7 +1,7 @@
 -- The numbers at the places so far are told.
 use Rattle.std.proofs.Common.{◌≡◌, ℕ, ◌+◌, ◌<◌, [], length, slice_index}
 use Rattle.mt_segment_spec.specs.Tables.{number_at, tables_at}
-use Rattle.mt_grammar_counts.proofs.texts.add_places.Given as goal
+use Rattle.mt_grammar_counts.proofs.texts.add_base_places.Given as goal
 
 abbrev pub invariant-loop-place : goal.invariant-loop-place
 invariant-loop-place g l = record {
