@@ -117,7 +117,7 @@ pub classes-pushed : (old new : List ((ℕ × ℕ) × ℕ)) (group member : ℕ)
 classes-pushed old new group member e = ap classes e ∙ map-append (λ (e : (ℕ × ℕ) × ℕ). e.0.0) old (((group, member), 0) ∷ [])
 
 -- keys that differ stand at one place each
-pub at_key : {K : Type 0} (es : List (K × ℕ)) (key : K) (i : ℕ) → IsAt es key i → (i < length (keys_of es)) × (get_or (keys_of es) i key ≡ key)
+at_key : {K : Type 0} (es : List (K × ℕ)) (key : K) (i : ℕ) → IsAt es key i → (i < length (keys_of es)) × (get_or (keys_of es) i key ≡ key)
 at_key es key i at =
     let within = slice_get_within es i (key, at.count) at.there in
     (omega (arith, within, length-keys es), get_or-keys es i key 0 ∙ ap (λ (x : _). x.0) (get_or_from_slice_get es i (key, at.count) (key, 0) at.there))
@@ -154,3 +154,7 @@ pushed_below old new group member g m e below l n key k at = by (cases_lt k (len
         let is : (group, member) ≡ key =
         ap (λ (x : (ℕ × ℕ) × ℕ). x.0) (sym (get_or_push old ((group, member), 0) (key, at.count) k last) ∙ get_or_from_slice_get (old ++ ((group, member), 0) ∷ []) k (key, at.count) (key, at.count) there) in
         (subst (λ (x : ℕ × ℕ). x.0 < g) is l, subst (λ (x : ℕ × ℕ). x.1 < m) is n)
+
+-- a pair whose key has these numbers
+pub pair_at_place : (es : List ((ℕ × ℕ) × ℕ)) (key : ℕ × ℕ) (count place group member : ℕ) → slice_get es place ≡ Some (key, count) → key.0 ≡ group → key.1 ≡ member → IsAt es (group, member) place
+pair_at_place es key count place group member there e f = rw (sym e, sym f) (record { count = count; there = there })

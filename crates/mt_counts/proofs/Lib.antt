@@ -18,4 +18,3 @@ pub mod Joined
 pub mod Placed
 pub mod Counting
 pub mod Filling
-pub mod Hints

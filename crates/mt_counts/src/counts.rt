@@ -48,6 +48,7 @@ impl Counts {
         if !self.tables.has_room_for(text.notes.len()) {
             return Err(NoMemory);
         }
+        self.tables.both.make_room(text.notes.len())?;
         let added = self.tables.add_all(
             alloc,
             &mut self.room,

@@ -6,7 +6,7 @@ pub loop-k-init : goal.loop-k-init
 loop-k-init c = placing_none c.args.self.now c.args.keys.now c.clear.new.self.items c.clear.ensures.items
 
 pub loop-k-preserved : goal.loop-k-preserved
-loop-k-preserved c = placing_more c.args.self.now c.loop-k.self c.place.new.self c.args.keys.now c.loop-k.places.items c.push.new.self.items c.loop-k.k c.in_ok-place.place _ c.loop-k-test.true c.loop-k.invariant
+loop-k-preserved c = placing_more c.args.self.now c.loop-k.self c.place_near.new.self c.args.keys.now c.loop-k.places.items c.push.new.self.items c.loop-k.k c.in_ok-place.place _ c.loop-k-test.true c.loop-k.invariant
     c.in_ok-place.ensures.grows c.in_ok-place.ensures.place c.in_ok-place.ensures.below c.in_ok-push.ensures.items
 
 pub returns-clause-places : goal.returns-clause-places
