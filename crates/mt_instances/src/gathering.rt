@@ -64,6 +64,7 @@ pub(crate) fn add_rows(
     if rows.is_empty() {
         return Ok(());
     }
+    gathered.instances.make_room(words.numbers.len())?;
     let heading = heading_of(words, gathered, relation)?;
     add_each(words, gathered, heading, rows)
 }

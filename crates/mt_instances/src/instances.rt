@@ -14,6 +14,12 @@ use std::alloc::Global;
 use std::marker::Model;
 use std::mem;
 
+/// A text of so many places is large.
+const LARGE: usize = 1 << 18;
+
+/// A large text mostly has more than one instance for so many of its places.
+const PLACES_OF_AN_INSTANCE: usize = 2;
+
 /// Instances in the order in which they came, as entries under numbered names. As long as the entries of each name come in ascending order, each of them is there once.
 /// It is seen as the list of the names and that of the instances.
 #[derive(Drop)]
@@ -66,6 +72,18 @@ impl Instances {
         ensures { slice_get self.now.names number ≡ Some result.now }
     {
         self.names.get(number as usize)
+    }
+
+    /// Makes room for the instances of a text that has so many places, where it is large: so those that are there are not copied again and again while others come.
+    pub(crate) fn make_room(&mut self, places: usize) -> Result<(), NoMemory>
+        ensures { self.new ≡ self.old }
+    {
+        let room = self.entries.capacity();
+        if places < LARGE || room >= places / PLACES_OF_AN_INSTANCE {
+            return Ok(());
+        }
+        self.entries.reserve(places / PLACES_OF_AN_INSTANCE)?;
+        Ok(())
     }
 
     /// Adds an instance, which may be there.
