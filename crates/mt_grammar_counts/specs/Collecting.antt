@@ -1,13 +1,19 @@
 -- What is collected of a text of a segment.
-use Rattle.std.specs.Prelude.{ℕ, ◌≡◌, ◌+◌, ◌<◌, List, [], length, map, slice_index}
+use Rattle.std.specs.Prelude.{ℕ, ◌≡◌, ◌+◌, ◌<◌, List, [], ◌∷◌, ◌++◌, length, map, slice_index}
 use Rattle.std.specs.List.{AllZip, flat_map}
+use Rattle.mt_text_spec.specs.Registries.{Registry}
+use Rattle.mt_text_spec.specs.Texts.{Row, Text}
 use Rattle.mt_text_spec.specs.Queries.{Query, Relation, Grammar}
+use Rattle.mt_match_spec.specs.Values.{Images}
+use Rattle.mt_count_spec.specs.Instances.{Instance}
 use Rattle.mt_segment_spec.specs.Tables.{Tables, first_place, number_at, tables_at}
 use Rattle.mt_eval_spec.specs.Told.{told_tokens}
+use Rattle.mt_eval_spec.specs.Fits.{Fits}
+use Rattle.mt_eval_spec.specs.RowsIn.{KeptIn}
 use Rattle.mt_prepare.specs.Prepared.{IsPrepared}
 use Rattle.mt_prepare.specs.declared.prepared.Prepared.{Prepared}
 use Rattle.mt_instances.specs.Collected.{Collected}
-use Rattle.mt_instances.specs.Laws.{Line}
+use Rattle.mt_instances.specs.Laws.{AreOfLines, Line}
 
 -- a query with the relation that it stands under
 abbrev pub line_of : Relation → Query → Line
@@ -46,3 +52,12 @@ pub record OnlyGives (old new : Collected) : Type 0 where
   pub lexicon : new.lexicon ≡ old.lexicon
   pub numbers : new.numbers ≡ old.numbers
   pub counted : new.counted ≡ old.counted
+
+-- just the instances of these lines but the last one are given, and the rows of that one are known
+pub record AreButOne (images : Images) (registry : Registry) (text : Text) (tables : Tables) (number : ℕ) (lines : List Line) (relation : Relation) (rows : List Row) (given : List Instance) : Type 0 where
+  pub before : List Line
+  pub query : Query
+  pub are : lines ≡ before ++ line_of relation query ∷ []
+  pub fits : Fits registry query
+  pub kept : KeptIn tables (number ∷ []) query rows
+  pub told : AreOfLines images registry text before given

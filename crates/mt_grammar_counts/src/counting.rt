@@ -29,10 +29,12 @@ use mt_triples::Triples;
 use std::alloc::Global;
 use std::marker::Brand;
 use std::sync::ledger::{Blank, Ledger};
+use std::thread::Threads;
 
 /// What a grammar counts over all texts of a corpus. No text is counted by the rows of another, and none has a query with more than 4,194,304 rows of its head or of an
 /// operand in it. The patterns, built once, may be used again. It costs by how many rows the queries have.
-pub fn count_corpus<P: PatternShop>(
+pub fn count_corpus<P: PatternShop, R: Threads + Sync>(
+    rt: &R,
     alloc: Global,
     corpus: &Corpus,
     grammar: &Grammar,
@@ -47,11 +49,12 @@ pub fn count_corpus<P: PatternShop>(
     ensures patterns { patterns.new ≡ patterns.old }
     ensures shop { P.refused shop.new ≡ P.refused shop.old }
 {
-    count_all::<P, Brand>(alloc, corpus, grammar, patterns, shop, Blank::new(1))
+    count_all::<P, R, Brand>(rt, alloc, corpus, grammar, patterns, shop, Blank::new(1))
 }
 
 /// The same. The blank names a ledger for the steps that are taken.
-fn count_all<P: PatternShop, L: Ledger>(
+fn count_all<P: PatternShop, R: Threads + Sync, L: Ledger>(
+    rt: &R,
     alloc: Global,
     corpus: &Corpus,
     grammar: &Grammar,
@@ -73,6 +76,7 @@ fn count_all<P: PatternShop, L: Ledger>(
     let mut steps = Steps::<L>::new(blank);
     let mut triples = Triples::new(alloc);
     add_segments(
+        rt,
         alloc,
         corpus,
         grammar,
@@ -85,7 +89,8 @@ fn count_all<P: PatternShop, L: Ledger>(
 }
 
 /// Counts one text of a segment, by its number there.
-fn count_one<P: PatternShop, L: Ledger>(
+fn count_one<P: PatternShop, R: Threads + Sync, L: Ledger>(
+    rt: &R,
     alloc: Global,
     registry: &Registry,
     grammar: &Grammar,
@@ -111,6 +116,7 @@ fn count_one<P: PatternShop, L: Ledger>(
 {
     let mut steps = Steps::<L>::new(blank);
     count_segment(
+        rt,
         alloc,
         registry,
         grammar,
@@ -124,7 +130,8 @@ fn count_one<P: PatternShop, L: Ledger>(
 }
 
 /// Counts a text whose segment is built and may be kept, before it is. After an error nothing is known of the counts.
-pub fn count_added<P: PatternShop>(
+pub fn count_added<P: PatternShop, R: Threads + Sync>(
+    rt: &R,
     alloc: Global,
     corpus: &Corpus,
     grammar: &Grammar,
@@ -147,7 +154,8 @@ pub fn count_added<P: PatternShop>(
 {
     images_are_decoded();
     let registry = corpus.registry();
-    count_one::<P, Brand>(
+    count_one::<P, R, Brand>(
+        rt,
         alloc,
         registry,
         grammar,
@@ -161,7 +169,8 @@ pub fn count_added<P: PatternShop>(
 }
 
 /// Counts the one text of this name. After an error nothing is known of the counts.
-pub fn count_named<P: PatternShop>(
+pub fn count_named<P: PatternShop, R: Threads + Sync>(
+    rt: &R,
     alloc: Global,
     corpus: &Corpus,
     name: &Value,
@@ -186,7 +195,8 @@ pub fn count_named<P: PatternShop>(
     let Some((segment, number)) = corpus.find(name) else {
         unreachable!();
     };
-    count_one::<P, Brand>(
+    count_one::<P, R, Brand>(
+        rt,
         alloc,
         registry,
         grammar,

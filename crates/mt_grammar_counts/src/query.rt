@@ -1,15 +1,17 @@
 //! The rows of one query in one text.
 
-ghost use Rattle.std.specs.Prelude.{◌≡◌, ℕ, [], ◌∷◌, ◌++◌, List as Items, replicate, IfOk, OnOk, IsErrOf};
+ghost use Rattle.std.specs.Prelude.{◌≡◌, ℕ, [], ◌∷◌, ◌++◌, List as Items, replicate, IfOk, IfSome, MatchOption, OnOk, IsErrOf};
 ghost use Rattle.mt_text_spec.specs.Texts as texts;
 ghost use Rattle.mt_match_spec.specs.Values.{Images};
 ghost use Rattle.mt_match_spec.specs.Kept.{Over, operand_rows_limit};
+ghost use Rattle.mt_eval_spec.specs.Told.{told_tokens};
 ghost use Rattle.mt_eval_spec.specs.Fits.{Fits};
 ghost use Rattle.mt_eval_spec.specs.RowsIn.{KeptIn};
 ghost use Rattle.mt_prepare.specs.KnownRows.{AreKnownIn};
 ghost use Rattle.mt_prepare.specs.Prepared.{IsPrepared};
+ghost use Rattle.mt_instances.specs.Gains.{LabelsLie};
 ghost use Rattle.mt_instances.specs.Laws.{AreOfLines, Line};
-ghost use Rattle.mt_grammar_counts.specs.Collecting.{Knows, OnlyGives, line_of};
+ghost use Rattle.mt_grammar_counts.specs.Collecting.{AreButOne, Knows, OnlyGives, line_of};
 ghost use Rattle.mt_grammar_counts.specs.Told.{IsTextIn, Tells};
 
 use super::error::CountError;
@@ -26,8 +28,10 @@ use mt_prepare::Prepared;
 use mt_rows::{EvalError, RowList};
 use mt_segment::Segment;
 use mt_segment_laws::{numbers_stand_for_values, tokens_stand_in_texts};
+use rayon::{current_num_threads, join_mut};
 use std::alloc::Global;
 use std::sync::ledger::Ledger;
+use std::thread::Threads;
 
 /// The most rows of a head or of an operand in a text.
 const OPERAND_ROWS_LIMIT: u32 = 4_194_304;
@@ -101,14 +105,129 @@ fn rows_of<L: Ledger>(
     }
 }
 
-/// Tells the collector the rows that a query of a relation keeps in a text by itself. After an error what is given is unknown.
-pub(crate) fn add_query<L: Ledger>(
-    alloc: Global,
+/// The rows that a query of a relation keeps in a text, which are not told yet.
+#[derive(Drop)]
+pub(crate) struct Waiting<'a> {
+    pub(crate) relation: &'a Relation,
+    pub(crate) rows: RowList,
+}
+
+/// Tells the collector rows that a query of a relation keeps in a text. After an error what is given is unknown.
+pub(crate) fn tell(
     relation: &Relation,
+    rows: &RowList,
+    text: &TextOf<'_>,
+    collector: &mut Collector<'_>,
+) -> Result<(), NoMemory>
+    requires text { IsTextIn text.now.registry.now text.now.segment.now text.now.number text.now.listed.now }
+    requires known { Knows text.now.segment.now text.now.registry.now.ws_attr text.now.number collector.old }
+    requires lie { LabelsLie rows.now (told_tokens text.now.segment.now text.now.number) }
+    ensures only { OnlyGives collector.old collector.new }
+    ensures given { (images : Images) (of : texts.Text) (lines : Items Line) → Tells images text.now.registry.now text.now.segment.now text.now.number of
+        → AreButOne images text.now.registry.now of text.now.segment.now text.now.number lines relation.now rows.now collector.old.given
+        → OnOk result (AreOfLines images text.now.registry.now of lines collector.new.given) }
+{
+    kept_are_joined();
+    live_texts_are_numbered();
+    numbers_are_live();
+    lines_go_on();
+    numbers_stand_for_values();
+    tokens_stand_in_texts();
+    collector.add_rows(relation, rows)?;
+    Ok(())
+}
+
+/// The rows that a query keeps in a text by itself. Another thread tells the collector those that wait meanwhile.
+fn tell_meanwhile<R: Threads + Sync, L: Ledger>(
+    rt: &R,
+    alloc: Global,
+    waiting: &Waiting<'_>,
     query: &Query,
     prepared: &Prepared,
     text: &TextOf<'_>,
     collector: &mut Collector<'_>,
+    scratch: &mut Scratch,
+    steps: &mut Steps<L>,
+) -> (Result<(), NoMemory>, Result<RowList, CountError>)
+    requires text { IsTextIn text.now.registry.now text.now.segment.now text.now.number text.now.listed.now }
+    requires fits { Fits text.now.registry.now query.now }
+    requires prepared { IsPrepared text.now.segment.now query.now prepared.now }
+    requires known { Knows text.now.segment.now text.now.registry.now.ws_attr text.now.number collector.old }
+    requires lie { LabelsLie waiting.now.rows (told_tokens text.now.segment.now text.now.number) }
+    requires rows { AreKnownIn text.now.segment.now scratch.old.lists.known }
+    ensures rows { AreKnownIn text.now.segment.now scratch.new.lists.known }
+    ensures only { OnlyGives collector.old collector.new }
+    ensures given { (images : Images) (of : texts.Text) (lines : Items Line) → Tells images text.now.registry.now text.now.segment.now text.now.number of
+        → AreButOne images text.now.registry.now of text.now.segment.now text.now.number lines waiting.now.relation.now waiting.now.rows collector.old.given
+        → OnOk result.0 (AreOfLines images text.now.registry.now of lines collector.new.given) }
+    ensures kept { IfOk result.1 (KeptIn text.now.segment.now (text.now.number ∷ []) query.now) }
+    ensures room { (images : Images) (of : texts.Text) → Tells images text.now.registry.now text.now.segment.now text.now.number of
+        → OnOk result.1 (¬ Over images text.now.registry.now (of ∷ []) query.now) }
+    ensures too_many { (images : Images) (of : texts.Text) → Tells images text.now.registry.now text.now.segment.now text.now.number of
+        → IsErrOf result.1 CountError.TooManyRows → Over images text.now.registry.now (of ∷ []) query.now }
+{
+    join_mut(
+        rt,
+        &mut || tell(waiting.relation, &waiting.rows, text, collector),
+        &mut || rows_of(alloc, query, prepared, text, scratch, steps),
+    )
+}
+
+/// So many rows take a millisecond or so to tell, far longer than starting a thread does.
+const MANY: usize = 1 << 15;
+
+/// The rows that a query keeps in a text by itself. The collector is told those that wait, where they are many by another thread meanwhile. After an error what is given
+/// is unknown.
+fn tell_and_list<R: Threads + Sync, L: Ledger>(
+    rt: &R,
+    alloc: Global,
+    waiting: &Waiting<'_>,
+    query: &Query,
+    prepared: &Prepared,
+    text: &TextOf<'_>,
+    collector: &mut Collector<'_>,
+    scratch: &mut Scratch,
+    steps: &mut Steps<L>,
+) -> Result<RowList, CountError>
+    requires text { IsTextIn text.now.registry.now text.now.segment.now text.now.number text.now.listed.now }
+    requires fits { Fits text.now.registry.now query.now }
+    requires prepared { IsPrepared text.now.segment.now query.now prepared.now }
+    requires known { Knows text.now.segment.now text.now.registry.now.ws_attr text.now.number collector.old }
+    requires lie { LabelsLie waiting.now.rows (told_tokens text.now.segment.now text.now.number) }
+    requires rows { AreKnownIn text.now.segment.now scratch.old.lists.known }
+    ensures rows { AreKnownIn text.now.segment.now scratch.new.lists.known }
+    ensures only { OnlyGives collector.old collector.new }
+    ensures given { (images : Images) (of : texts.Text) (lines : Items Line) → Tells images text.now.registry.now text.now.segment.now text.now.number of
+        → AreButOne images text.now.registry.now of text.now.segment.now text.now.number lines waiting.now.relation.now waiting.now.rows collector.old.given
+        → OnOk result (AreOfLines images text.now.registry.now of lines collector.new.given) }
+    ensures kept { IfOk result (KeptIn text.now.segment.now (text.now.number ∷ []) query.now) }
+    ensures room { (images : Images) (of : texts.Text) → Tells images text.now.registry.now text.now.segment.now text.now.number of
+        → OnOk result (¬ Over images text.now.registry.now (of ∷ []) query.now) }
+    ensures too_many { (images : Images) (of : texts.Text) → Tells images text.now.registry.now text.now.segment.now text.now.number of
+        → IsErrOf result CountError.TooManyRows → Over images text.now.registry.now (of ∷ []) query.now }
+{
+    if waiting.rows.len() < MANY || current_num_threads(rt) < 2 {
+        tell(waiting.relation, &waiting.rows, text, collector)?;
+        return rows_of(alloc, query, prepared, text, scratch, steps);
+    }
+    let (told, rows) = tell_meanwhile(
+        rt, alloc, waiting, query, prepared, text, collector, scratch, steps,
+    );
+    told?;
+    rows
+}
+
+/// Lists the rows that a query of a relation keeps in a text by itself, and lets them wait. The collector is told those that waited before. After an error what is given
+/// is unknown.
+pub(crate) fn add_query<'a, R: Threads + Sync, L: Ledger>(
+    rt: &R,
+    alloc: Global,
+    relation: &'a Relation,
+    query: &Query,
+    prepared: &Prepared,
+    text: &TextOf<'_>,
+    collector: &mut Collector<'_>,
+    waiting: &mut Option<Waiting<'a>>,
     scratch: &mut Scratch,
     steps: &mut Steps<L>,
 ) -> Result<(), CountError>
@@ -116,26 +235,35 @@ pub(crate) fn add_query<L: Ledger>(
     requires fits { Fits text.now.registry.now query.now }
     requires prepared { IsPrepared text.now.segment.now query.now prepared.now }
     requires known { Knows text.now.segment.now text.now.registry.now.ws_attr text.now.number collector.old }
+    requires waiting { IfSome waiting.old (λ w. LabelsLie w.rows (told_tokens text.now.segment.now text.now.number)) }
     requires rows { AreKnownIn text.now.segment.now scratch.old.lists.known }
     ensures rows { AreKnownIn text.now.segment.now scratch.new.lists.known }
     ensures only { OnlyGives collector.old collector.new }
+    ensures waiting { IfSome waiting.new (λ w. LabelsLie w.rows (told_tokens text.now.segment.now text.now.number)) }
     ensures given { (images : Images) (of : texts.Text) (lines : Items Line) → Tells images text.now.registry.now text.now.segment.now text.now.number of
-        → AreOfLines images text.now.registry.now of lines collector.old.given
-        → OnOk result (AreOfLines images text.now.registry.now of (lines ++ line_of relation.now query.now ∷ []) collector.new.given) }
+        → MatchOption waiting.old (AreOfLines images text.now.registry.now of lines collector.old.given)
+        (λ w. AreButOne images text.now.registry.now of text.now.segment.now text.now.number lines w.relation.now w.rows collector.old.given)
+        → OnOk result (MatchOption waiting.new (AreOfLines images text.now.registry.now of (lines ++ line_of relation.now query.now ∷ []) collector.new.given)
+        (λ w. AreButOne images text.now.registry.now of text.now.segment.now text.now.number (lines ++ line_of relation.now query.now ∷ []) w.relation.now w.rows collector.new.given)) }
     ensures room { (images : Images) (of : texts.Text) → Tells images text.now.registry.now text.now.segment.now text.now.number of
         → OnOk result (¬ Over images text.now.registry.now (of ∷ []) query.now) }
     ensures too_many { (images : Images) (of : texts.Text) → Tells images text.now.registry.now text.now.segment.now text.now.number of
         → IsErrOf result CountError.TooManyRows → Over images text.now.registry.now (of ∷ []) query.now }
 {
-    kept_are_joined();
-    live_texts_are_numbered();
-    numbers_are_live();
     labels_are_inside();
-    lines_go_on();
-    numbers_stand_for_values();
-    tokens_stand_in_texts();
-    let rows = rows_of(alloc, query, prepared, text, scratch, steps)?;
-    collector.add_rows(relation, &rows)?;
-    scratch.lists.take_back(rows);
-    Ok(())
+    match waiting.take() {
+        None => {
+            let rows = rows_of(alloc, query, prepared, text, scratch, steps)?;
+            *waiting = Some(Waiting { relation, rows });
+            Ok(())
+        }
+        Some(last) => {
+            let rows = tell_and_list(
+                rt, alloc, &last, query, prepared, text, collector, scratch, steps,
+            )?;
+            scratch.lists.take_back(last.rows);
+            *waiting = Some(Waiting { relation, rows });
+            Ok(())
+        }
+    }
 }

@@ -30,6 +30,7 @@ use mt_segment::Segment;
 use mt_triples::Triples;
 use std::alloc::Global;
 use std::sync::ledger::Ledger;
+use std::thread::Threads;
 
 /// So many rows of a segment at most are kept for the queries that ask for the same. A row has a bit for each token of the segment.
 const MOST_ROWS: usize = 32;
@@ -60,7 +61,8 @@ impl Buffers {
 }
 
 /// Counts the texts of a segment that have these numbers, each by itself. The queries of the grammar are made ready once, and share the rows of their tests.
-pub(crate) fn add_segment<'a, P: PatternShop, L: Ledger>(
+pub(crate) fn add_segment<'a, P: PatternShop, R: Threads + Sync, L: Ledger>(
+    rt: &R,
     alloc: Global,
     registry: &Registry,
     grammar: &Grammar,
@@ -89,6 +91,7 @@ pub(crate) fn add_segment<'a, P: PatternShop, L: Ledger>(
     let prepared = patterns.prepare_all(alloc, grammar, segment, shop, steps)?;
     buffers.scratch.lists.turn(alloc, MOST_ROWS);
     let counted = add_texts(
+        rt,
         alloc,
         registry,
         grammar,
@@ -105,7 +108,8 @@ pub(crate) fn add_segment<'a, P: PatternShop, L: Ledger>(
 }
 
 /// Counts the texts of a segment that have these numbers. After an error nothing is known of the counts.
-pub(crate) fn count_segment<P: PatternShop, L: Ledger>(
+pub(crate) fn count_segment<P: PatternShop, R: Threads + Sync, L: Ledger>(
+    rt: &R,
     alloc: Global,
     registry: &Registry,
     grammar: &Grammar,
@@ -129,6 +133,7 @@ pub(crate) fn count_segment<P: PatternShop, L: Ledger>(
     let _valid = segment.texts();
     let mut collector = counts.collector(alloc, segment.lexicon(registry.ws_attr()));
     add_segment(
+        rt,
         alloc,
         registry,
         grammar,
@@ -145,7 +150,8 @@ pub(crate) fn count_segment<P: PatternShop, L: Ledger>(
 }
 
 /// Counts the texts of a corpus, one segment after another, and adds them to the counts over no texts.
-pub(crate) fn add_segments<P: PatternShop, L: Ledger>(
+pub(crate) fn add_segments<P: PatternShop, R: Threads + Sync, L: Ledger>(
+    rt: &R,
     alloc: Global,
     corpus: &Corpus,
     grammar: &Grammar,
@@ -172,6 +178,7 @@ pub(crate) fn add_segments<P: PatternShop, L: Ledger>(
         let segment = segments.get(i);
         let numbers = live.get(i);
         count_segment(
+            rt,
             alloc,
             registry,
             grammar,

@@ -23,6 +23,7 @@ use mt_segment::Segment;
 use mt_segment_laws::{numbers_stand_for_values, tables_are_whole, tokens_stand_in_texts};
 use std::alloc::Global;
 use std::sync::ledger::Ledger;
+use std::thread::Threads;
 
 /// Tells the collector the number of the value at each place of a text.
 fn add_places<L: Ledger>(
@@ -91,7 +92,8 @@ fn add_mapped_places<L: Ledger>(
 }
 
 /// Counts a text.
-fn add_text<L: Ledger>(
+fn add_text<R: Threads + Sync, L: Ledger>(
+    rt: &R,
     alloc: Global,
     grammar: &Grammar,
     prepared: &[Prepared],
@@ -120,7 +122,9 @@ fn add_text<L: Ledger>(
     numbers_stand_for_values();
     tokens_stand_in_texts();
     add_places(text, collector, steps)?;
-    add_lines(alloc, grammar, prepared, text, collector, scratch, steps)?;
+    add_lines(
+        rt, alloc, grammar, prepared, text, collector, scratch, steps,
+    )?;
     collector.finish_text()?;
     Ok(())
 }
@@ -134,7 +138,8 @@ fn list_alone(listed: &mut List<u32>, number: u32) -> Result<(), NoMemory>
 }
 
 /// Counts the text of a segment that has this number.
-fn add_number<L: Ledger>(
+fn add_number<R: Threads + Sync, L: Ledger>(
+    rt: &R,
     alloc: Global,
     registry: &Registry,
     grammar: &Grammar,
@@ -166,11 +171,14 @@ fn add_number<L: Ledger>(
         number,
         listed,
     };
-    add_text(alloc, grammar, prepared, &text, collector, scratch, steps)
+    add_text(
+        rt, alloc, grammar, prepared, &text, collector, scratch, steps,
+    )
 }
 
 /// Counts the texts of a segment that have these numbers, each by itself.
-pub(crate) fn add_texts<L: Ledger>(
+pub(crate) fn add_texts<R: Threads + Sync, L: Ledger>(
+    rt: &R,
     alloc: Global,
     registry: &Registry,
     grammar: &Grammar,
@@ -197,7 +205,8 @@ pub(crate) fn add_texts<L: Ledger>(
     for k in 0..numbers.len() {
         let number = numbers[k];
         add_number(
-            alloc, registry, grammar, prepared, segment, number, collector, listed, scratch, steps,
+            rt, alloc, registry, grammar, prepared, segment, number, collector, listed, scratch,
+            steps,
         )?;
     }
     Ok(())

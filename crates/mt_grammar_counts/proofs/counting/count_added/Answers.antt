@@ -8,13 +8,13 @@ use Rattle.mt_grammar_counts.proofs.Ending.{first_within, made_under, tells_adde
 use Rattle.mt_grammar_counts.proofs.counting.count_added.Goals as goal
 
 pub count_one-requires-clause-under : goal.count_one-requires-clause-under
-count_one-requires-clause-under g c =
+count_one-requires-clause-under g c = λ lifetimes outlive.
     let some = c.requires.segment in
     subst (λ (r : Registry). AreTablesUnder r c.args.segment.now) (sym c.registry-registry.ensures.registry)
     (made_under c.args.corpus.now.registry some.text c.args.segment.now c.registry-registry.ensures.valid some.may.valid some.may.made)
 
 pub count_one-requires-clause-number : goal.count_one-requires-clause-number
-count_one-requires-clause-number g c = first_within c.args.corpus.now.registry c.requires.segment.text c.args.segment.now c.requires.segment.may.made
+count_one-requires-clause-number g c = λ lifetimes outlive. first_within c.args.corpus.now.registry c.requires.segment.text c.args.segment.now c.requires.segment.may.made
 
 pub returns-clause-counts : goal.returns-clause-counts
 returns-clause-counts g c = λ images text may by.

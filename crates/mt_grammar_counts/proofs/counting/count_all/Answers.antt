@@ -4,7 +4,7 @@ use Rattle.mt_grammar_counts.proofs.Ending.{same_error}
 use Rattle.mt_grammar_counts.proofs.counting.count_all.Goals as goal
 
 pub add_segments-requires-clause-none : goal.add_segments-requires-clause-none
-add_segments-requires-clause-none g c = λ images. c.new-triples.ensures images c.args.corpus.now.registry c.args.grammar.now
+add_segments-requires-clause-none g c = λ lifetimes outlive. λ images. c.new-triples.ensures images c.args.corpus.now.registry c.args.grammar.now
 
 pub returns-in_err-add_segments-clause-too_many : goal.returns-in_err-add_segments-clause-too_many
 returns-in_err-add_segments-clause-too_many g c = λ images by h.

@@ -4,7 +4,7 @@ use Rattle.mt_grammar_counts.proofs.Ending.{tells_all}
 use Rattle.mt_grammar_counts.proofs.counting.count_one.Goals as goal
 
 pub count_segment-requires-clause-numbers : goal.count_segment-requires-clause-numbers
-count_segment-requires-clause-numbers g c = alone_texts c.args.segment.now c.args.number (c.args.number ∷ []) c.requires.number refl
+count_segment-requires-clause-numbers g c = λ lifetimes outlive. alone_texts c.args.segment.now c.args.number (c.args.number ∷ []) c.requires.number refl
 
 pub returns-clause-counts : goal.returns-clause-counts
 returns-clause-counts g c = λ images text tells. c.count_segment.ensures.counts images (text ∷ []) (tells_all images c.args.registry.now c.args.segment.now c.args.number text tells)

@@ -14,12 +14,12 @@ prepare_all-requires-clause-queries g c =
     all_for c.args.registry.now c.args.segment.now c.args.grammar.now c.requires.under (all_fit (record { head = e.head; filters = e.filters; conds = e.conds }) c.args.registry.now c.args.grammar.now c.requires.grammar)
 
 pub add_texts-counted-requires-clause-fit : goal.add_texts-counted-requires-clause-fit
-add_texts-counted-requires-clause-fit g c =
+add_texts-counted-requires-clause-fit g c = λ lifetimes outlive.
     let e = c.grammar_queries_are_in_order.ensures in
     all_fit (record { head = e.head; filters = e.filters; conds = e.conds }) c.args.registry.now c.args.grammar.now c.requires.grammar
 
 pub add_texts-counted-requires-clause-fresh : goal.add_texts-counted-requires-clause-fresh
-add_texts-counted-requires-clause-fresh g c =
+add_texts-counted-requires-clause-fresh g c = λ lifetimes outlive.
     let is = c.turn_to.ensures in
     record {
       lexicon = ap (λ (o : Collected). o.lexicon) is ∙ rw c.ws_attr.ensures at c.lexicon.ensures;
@@ -33,4 +33,4 @@ returns-clause-counts g c = λ images of done tell old.
     (subst (λ (counted : Counted). AreCountsOf images c.args.registry.now c.args.grammar.now done counted) (sym (ap (λ (o : Collected). o.counted) c.turn_to.ensures)) old)
 
 pub add_texts-counted-requires-clause-rows : goal.add_texts-counted-requires-clause-rows
-add_texts-counted-requires-clause-rows g c = c.turn.ensures.known c.args.segment.now
+add_texts-counted-requires-clause-rows g c = λ lifetimes outlive. c.turn.ensures.known c.args.segment.now

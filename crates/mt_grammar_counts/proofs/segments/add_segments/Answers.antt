@@ -27,12 +27,12 @@ pub get-numbers-requires : goal.get-numbers-requires
 get-numbers-requires g c = let count = as_many c.held.result.0.now c.held.result.1.now c.held.ensures.numbers in omega (arith, count, c.loop-i-test.true, c.len-i-end.ensures)
 
 pub count_segment-requires-clause-under : goal.count_segment-requires-clause-under
-count_segment-requires-clause-under g c =
+count_segment-requires-clause-under g c = λ lifetimes outlive.
     let under : AreTablesUnder c.args.corpus.now.registry c.get-segment.result.now = subst (AreTablesUnder c.args.corpus.now.registry) (sym c.get-segment.ensures) (c.held.ensures.tables c.loop-i.i c.get-segment.result.now (omega (arith, c.loop-i-test.true, c.len-i-end.ensures))) in
     subst (λ (r : Registry). AreTablesUnder r c.get-segment.result.now) (sym c.registry-registry.ensures.registry) under
 
 pub count_segment-requires-clause-numbers : goal.count_segment-requires-clause-numbers
-count_segment-requires-clause-numbers g c =
+count_segment-requires-clause-numbers g c = λ lifetimes outlive.
     rw c.as_slice.ensures
     (are_texts c.held.result.0.now c.held.result.1.now c.loop-i.i c.get-segment.result.now c.get-numbers.result.now c.held.ensures.numbers (omega (arith, c.loop-i-test.true, c.len-i-end.ensures)) c.get-segment.ensures c.get-numbers.ensures)
 

@@ -20,7 +20,7 @@ loop-k-init g c = record {
 }
 
 pub add_number-requires-clause-number : goal.add_number-requires-clause-number
-add_number-requires-clause-number g c = c.requires.numbers.within c.loop-k.k 0 (omega (arith, c.loop-k-test.true))
+add_number-requires-clause-number g c = λ lifetimes outlive. c.requires.numbers.within c.loop-k.k 0 (omega (arith, c.loop-k-test.true))
 
 pub returns-in_err-add_number-clause-too_many : goal.returns-in_err-add_number-clause-too_many
 returns-in_err-add_number-clause-too_many g c =
