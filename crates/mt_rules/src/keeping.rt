@@ -16,13 +16,15 @@ use mt_grammar_counts::{CountError, count_added};
 use mt_pattern::PatternShop;
 use mt_segment::Segment;
 use std::alloc::Global;
+use std::thread::Threads;
 
 impl<P: PatternShop> Rules<P> {
     /// Keeps the text of a segment behind the others of the corpus, and counts it, unless some query has too many rows in it. Where it is not kept, the corpus is as it
     /// was, and so are the counts. No text that was counted before is looked at. The caller knows mappers that make the images that were taken and those
     /// of the segment.
-    pub fn keep(
+    pub fn keep<R: Threads + Sync>(
         &mut self,
+        rt: &R,
         alloc: Global,
         corpus: &mut Corpus,
         segment: Segment,
@@ -40,6 +42,7 @@ impl<P: PatternShop> Rules<P> {
         ensures shop { P.refused shop.new ≡ P.refused shop.old }
     {
         count_added(
+            rt,
             alloc,
             corpus,
             &self.grammar,

@@ -17,11 +17,13 @@ use mt_grammar_counts::{CountError, GrammarPatterns, TextCounts, count_corpus};
 use mt_grammar_laws::{one_grammar, one_grammar_answer};
 use mt_pattern::PatternShop;
 use std::alloc::Global;
+use std::thread::Threads;
 
 impl<P: PatternShop> Rules<P> {
     /// The grammar that these bytes are, over a corpus, or the first check that stands: the bytes are no grammar, a pattern is none, or a query has too many rows in a
     /// text by itself. Its patterns are built also where no text is held.
-    pub fn read(
+    pub fn read<R: Threads + Sync>(
+        rt: &R,
         alloc: Global,
         corpus: &Corpus,
         bytes: &[u8],
@@ -32,14 +34,15 @@ impl<P: PatternShop> Rules<P> {
         ensures shop { OnOk result (P.refused shop.new ≡ P.refused shop.old) }
     {
         match read_grammar(alloc, bytes, corpus.registry()) {
-            Ok(grammar) => built(alloc, corpus, grammar, shop),
+            Ok(grammar) => built(rt, alloc, corpus, grammar, shop),
             Err(error) => Err(no_grammar(error)),
         }
     }
 }
 
 /// A grammar with its patterns, over a corpus.
-fn built<P: PatternShop>(
+fn built<P: PatternShop, R: Threads + Sync>(
+    rt: &R,
     alloc: Global,
     corpus: &Corpus,
     grammar: Grammar,
@@ -53,13 +56,14 @@ fn built<P: PatternShop>(
     one_grammar_answer();
     patterns_are_told();
     match GrammarPatterns::<P>::build(alloc, &grammar, shop) {
-        Ok(patterns) => counted(alloc, corpus, grammar, patterns, shop),
+        Ok(patterns) => counted(rt, alloc, corpus, grammar, patterns, shop),
         Err(error) => Err(no_pattern(error)),
     }
 }
 
 /// A grammar whose patterns are built, with its counts over a corpus.
-fn counted<P: PatternShop>(
+fn counted<P: PatternShop, R: Threads + Sync>(
+    rt: &R,
     alloc: Global,
     corpus: &Corpus,
     grammar: Grammar,
@@ -77,7 +81,7 @@ fn counted<P: PatternShop>(
     one_grammar_answer();
     patterns_are_told();
     let mut patterns = patterns;
-    match count_corpus(alloc, corpus, &grammar, &mut patterns, shop) {
+    match count_corpus(rt, alloc, corpus, &grammar, &mut patterns, shop) {
         Ok(triples) => Ok(Rules {
             grammar,
             patterns,

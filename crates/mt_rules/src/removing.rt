@@ -13,12 +13,14 @@ use mt_corpus::Corpus;
 use mt_grammar_counts::{CountError, count_named};
 use mt_pattern::PatternShop;
 use std::alloc::Global;
+use std::thread::Threads;
 
 impl<P: PatternShop> Rules<P> {
     /// Removes the text of this name from the corpus, with what it counts, and says how many tokens it has. Only that text is looked at. Where there is no memory to
     /// count it, it stays.
-    pub fn remove(
+    pub fn remove<R: Threads + Sync>(
         &mut self,
+        rt: &R,
         alloc: Global,
         corpus: &mut Corpus,
         name: &Value,
@@ -35,6 +37,7 @@ impl<P: PatternShop> Rules<P> {
         ensures shop { P.refused shop.new ≡ P.refused shop.old }
     {
         match count_named(
+            rt,
             alloc,
             corpus,
             name,
