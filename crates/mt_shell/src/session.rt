@@ -91,21 +91,21 @@ impl<P: PatternShop, M: Mapper> Session<P, M> {
             Command::Registry { file } => self.state.set_registry(file, &mut self.mappers, edge),
             Command::Text { name, body } => {
                 self.state
-                    .add_text(name, body.as_slice(), &mut self.mappers, shop)
+                    .add_text(rt, name, body.as_slice(), &mut self.mappers, shop)
             }
             Command::Add { name, file } => {
                 self.state
-                    .add_file(name, file, &mut self.mappers, edge, shop)
+                    .add_file(rt, name, file, &mut self.mappers, edge, shop)
             }
             Command::Generate { name, seed, tokens } => {
                 self.state
                     .generate(rt, name, *seed, *tokens, &mut self.mappers, shop)
             }
             Command::Ask(ask) => self.state.answer(rt, ask, shop),
-            Command::Grammar { file } => self.state.set_grammar(file, edge, shop),
-            Command::Rules { body } => self.state.set_rules(body.as_slice(), shop),
+            Command::Grammar { file } => self.state.set_grammar(rt, file, edge, shop),
+            Command::Rules { body } => self.state.set_rules(rt, body.as_slice(), shop),
             Command::Segments => self.state.segments(),
-            Command::Remove { name } => self.state.remove(name, shop),
+            Command::Remove { name } => self.state.remove(rt, name, shop),
             Command::Quit => quit(self.alloc),
             _ => refused(self.alloc, &Refusal::BadCommand),
         }

@@ -29,11 +29,13 @@ use mt_pattern::PatternShop;
 use mt_segment::Segment;
 use mt_session_laws::held_is_valid;
 use mt_vertical::{TextError, no_text_with_fault, one_text, read_text, valid_texts};
+use std::thread::Threads;
 
 impl<P: PatternShop> State<P> {
     /// `text`: holds the text that the body is, unless its name is taken.
-    pub fn add_text<M: Mapper>(
+    pub fn add_text<M: Mapper, R: Threads + Sync>(
         &mut self,
+        rt: &R,
         name: &Value,
         body: &[u8],
         mappers: &mut Vec<M>,
@@ -51,12 +53,13 @@ impl<P: PatternShop> State<P> {
         if self.holds(name) {
             return refused(self.alloc, &Refusal::NameTaken(name.as_str()));
         }
-        self.read_text(name, body, mappers, shop)
+        self.read_text(rt, name, body, mappers, shop)
     }
 
     /// `add`: holds the text that the file is, unless its name is taken.
-    pub fn add_file<M: Mapper, E: Edge>(
+    pub fn add_file<M: Mapper, R: Threads + Sync, E: Edge>(
         &mut self,
+        rt: &R,
         name: &Value,
         file: &Value,
         mappers: &mut Vec<M>,
@@ -75,12 +78,13 @@ impl<P: PatternShop> State<P> {
             return refused(self.alloc, &Refusal::NameTaken(name.as_str()));
         }
         let fetched = fetch(self.alloc, file.as_str(), edge);
-        self.take_file(name, file, fetched, mappers, shop)
+        self.take_file(rt, name, file, fetched, mappers, shop)
     }
 
     /// Does with the file what was found of it.
-    fn take_file<M: Mapper>(
+    fn take_file<M: Mapper, R: Threads + Sync>(
         &mut self,
+        rt: &R,
         name: &Value,
         file: &Value,
         fetched: Fetched,
@@ -100,7 +104,7 @@ impl<P: PatternShop> State<P> {
         no_text_with_fault();
         let alloc = self.alloc;
         match fetched {
-            Fetched::Whole(bytes) => self.read_text(name, bytes.as_slice(), mappers, shop),
+            Fetched::Whole(bytes) => self.read_text(rt, name, bytes.as_slice(), mappers, shop),
             Fetched::Absent => refused(alloc, &Refusal::NoSuchFile(file.as_str())),
             Fetched::TooLong => refused(alloc, &Refusal::FileTooLong(file.as_str())),
             Fetched::Failed => failed(alloc, file),
@@ -109,8 +113,9 @@ impl<P: PatternShop> State<P> {
     }
 
     /// Reads the text that these bytes are, and keeps it.
-    pub(super) fn read_text<M: Mapper>(
+    pub(super) fn read_text<M: Mapper, R: Threads + Sync>(
         &mut self,
+        rt: &R,
         name: &Value,
         bytes: &[u8],
         mappers: &mut Vec<M>,
@@ -129,14 +134,20 @@ impl<P: PatternShop> State<P> {
             return Reply::NoMemory;
         };
         match read_text(self.alloc, own_name, bytes, self.corpus.registry()) {
-            Ok(text) => self.keep_text(text, mappers, shop),
+            Ok(text) => self.keep_text(rt, text, mappers, shop),
             Err(TextError::Bad(line)) => refused(self.alloc, &Refusal::BadVertical(line)),
             Err(TextError::NoMemory) => Reply::NoMemory,
         }
     }
 
     /// Keeps a text behind the others, where there is room. The reply is made first.
-    fn keep_text<M: Mapper>(&mut self, text: Text, mappers: &mut Vec<M>, shop: &mut P) -> Reply
+    fn keep_text<M: Mapper, R: Threads + Sync>(
+        &mut self,
+        rt: &R,
+        text: Text,
+        mappers: &mut Vec<M>,
+        shop: &mut P,
+    ) -> Reply
         ghost setting: { Setting }
         requires free { Holds self.old.held text.name → ⊥ }
         requires valid { ValidText self.old.held.registry text }
@@ -152,11 +163,17 @@ impl<P: PatternShop> State<P> {
         let Ok(segment) = self.corpus.build(text, mappers) else {
             return Reply::NoMemory;
         };
-        self.keep_made(tokens, segment, shop)
+        self.keep_made(rt, tokens, segment, shop)
     }
 
     /// Keeps the segment of a text of so many tokens for which there is room, and tells of it.
-    pub(super) fn keep_made(&mut self, tokens: usize, segment: Segment, shop: &mut P) -> Reply
+    pub(super) fn keep_made<R: Threads + Sync>(
+        &mut self,
+        rt: &R,
+        tokens: usize,
+        segment: Segment,
+        shop: &mut P,
+    ) -> Reply
         ghost setting: { Setting }
         requires may { SomeMayBeKept (corpus_in self.old) segment }
         requires images { AreImagesBy (images_of setting) (images_in self.old.held.registry segment) }
@@ -168,7 +185,7 @@ impl<P: PatternShop> State<P> {
         let Ok(line) = count_line(self.alloc, "ok", tokens as u128) else {
             return Reply::NoMemory;
         };
-        match self.keep_segment(segment, shop) {
+        match self.keep_segment(rt, segment, shop) {
             Ok(()) => Reply::Lines(line),
             Err(CountError::TooManyRows) => refused(self.alloc, &Refusal::TooManyRows),
             Err(CountError::NoMemory) => Reply::NoMemory,
@@ -176,7 +193,12 @@ impl<P: PatternShop> State<P> {
     }
 
     /// Keeps the segment of a text for which there is room, counted where a grammar is held.
-    fn keep_segment(&mut self, segment: Segment, shop: &mut P) -> Result<(), CountError>
+    fn keep_segment<R: Threads + Sync>(
+        &mut self,
+        rt: &R,
+        segment: Segment,
+        shop: &mut P,
+    ) -> Result<(), CountError>
         ghost setting: { Setting }
         requires may { SomeMayBeKept (corpus_in self.old) segment }
         requires images { AreImagesBy (images_of setting) (images_in self.old.held.registry segment) }
@@ -190,7 +212,7 @@ impl<P: PatternShop> State<P> {
     {
         held_is_valid();
         match &mut self.rules {
-            Some(rules) => rules.keep(self.alloc, &mut self.corpus, segment, shop),
+            Some(rules) => rules.keep(rt, self.alloc, &mut self.corpus, segment, shop),
             None => Ok(self.corpus.keep(segment)?),
         }
     }

@@ -56,7 +56,7 @@ impl<P: PatternShop> State<P> {
         let Ok(vertical) = generated(self.alloc, name.as_str(), seed, tokens) else {
             return Reply::NoMemory;
         };
-        self.read_text(name, vertical.as_slice(), mappers, shop)
+        self.read_text(rt, name, vertical.as_slice(), mappers, shop)
     }
 
     /// Whether a generated text of so many tokens can be made without its vertical: under the standard registry, if it is no longer than a text may be.
@@ -94,6 +94,6 @@ impl<P: PatternShop> State<P> {
         let Ok(segment) = generated_segment(rt, self.alloc, registry, own_name, seed, tokens) else {
             return Reply::NoMemory;
         };
-        self.keep_made(tokens as usize, segment, shop)
+        self.keep_made(rt, tokens as usize, segment, shop)
     }
 }

@@ -17,10 +17,11 @@ use mt_answer::{Refusal, Reply, refused};
 use mt_base::{List, NoMemory, Value};
 use mt_pattern::PatternShop;
 use mt_session_laws::held_is_valid;
+use std::thread::Threads;
 
 impl<P: PatternShop> State<P> {
     /// `remove`: the text of this name is no text of the corpus from now on. The memory of the reply is taken first.
-    pub fn remove(&mut self, name: &Value, shop: &mut P) -> Reply
+    pub fn remove<R: Threads + Sync>(&mut self, rt: &R, name: &Value, shop: &mut P) -> Reply
         ghost setting: { Setting }
         requires { AreImagesBy (images_of setting) self.old.taken }
         ensures means { AnswersAlone setting self.old.held (spec.Remove name.now) result self.new.held }
@@ -33,7 +34,7 @@ impl<P: PatternShop> State<P> {
         let Ok(mut line) = Vec::with_capacity(self.alloc, LINE_BYTES) else {
             return Reply::NoMemory;
         };
-        let Ok(tokens) = self.remove_counted(name, shop) else {
+        let Ok(tokens) = self.remove_counted(rt, name, shop) else {
             return Reply::NoMemory;
         };
         write_tokens(&mut line, tokens);
@@ -41,7 +42,12 @@ impl<P: PatternShop> State<P> {
     }
 
     /// Removes a text of the corpus, with what a grammar that is held counts in it, and says how many tokens it has.
-    fn remove_counted(&mut self, name: &Value, shop: &mut P) -> Result<u32, NoMemory>
+    fn remove_counted<R: Threads + Sync>(
+        &mut self,
+        rt: &R,
+        name: &Value,
+        shop: &mut P,
+    ) -> Result<u32, NoMemory>
         ghost setting: { Setting }
         requires name { Holds self.old.held name.now }
         requires taken { AreImagesBy (images_of setting) self.old.taken }
@@ -53,7 +59,7 @@ impl<P: PatternShop> State<P> {
     {
         held_is_valid();
         match &mut self.rules {
-            Some(rules) => rules.remove(self.alloc, &mut self.corpus, name, shop),
+            Some(rules) => rules.remove(rt, self.alloc, &mut self.corpus, name, shop),
             None => match self.corpus.remove(name) {
                 Ok(tokens) => Ok(tokens),
                 Err(_) => unreachable!(),

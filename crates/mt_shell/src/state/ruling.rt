@@ -20,20 +20,27 @@ use mt_base::Value;
 use mt_pattern::PatternShop;
 use mt_rules::{Rules, hold, let_go};
 use mt_session_laws::held_is_valid;
+use std::thread::Threads;
 
 impl<P: PatternShop> State<P> {
     /// `rules`: the grammar that the body is holds from now on, in place of any before.
-    pub fn set_rules(&mut self, body: &[u8], shop: &mut P) -> Reply
+    pub fn set_rules<R: Threads + Sync>(&mut self, rt: &R, body: &[u8], shop: &mut P) -> Reply
         ghost setting: { Setting }
         requires { AreImagesBy (images_of setting) self.old.taken }
         ensures means { AnswersBeside setting self.old.held (spec.Rules body.now) result self.new.held (P.refused shop.old) (P.refused shop.new) }
         ensures serves { (mappers : List (List ℕ × (List ℕ → List ℕ))) → Serves setting mappers self.old → Serves setting mappers self.new }
     {
-        self.read_rules(body, shop)
+        self.read_rules(rt, body, shop)
     }
 
     /// `grammar`: the grammar of the file holds from now on, in place of any before.
-    pub fn set_grammar<E: Edge>(&mut self, file: &Value, edge: &mut E, shop: &mut P) -> Reply
+    pub fn set_grammar<R: Threads + Sync, E: Edge>(
+        &mut self,
+        rt: &R,
+        file: &Value,
+        edge: &mut E,
+        shop: &mut P,
+    ) -> Reply
         ghost setting: { Setting }
         requires { AreImagesBy (images_of setting) self.old.taken }
         ensures means { Stepped setting self.old.held (spec.Grammar file.now) result self.new.held (beside (E.seen edge.old) (P.refused shop.old)) (beside (E.seen edge.new) (P.refused shop.new)) }
@@ -41,11 +48,17 @@ impl<P: PatternShop> State<P> {
         ensures names { E.names edge.new ≡ E.names edge.old }
     {
         let fetched = fetch(self.alloc, file.as_str(), edge);
-        self.take_grammar(file, fetched, shop)
+        self.take_grammar(rt, file, fetched, shop)
     }
 
     /// Does with the file what was found of it.
-    fn take_grammar(&mut self, file: &Value, fetched: Fetched, shop: &mut P) -> Reply
+    fn take_grammar<R: Threads + Sync>(
+        &mut self,
+        rt: &R,
+        file: &Value,
+        fetched: Fetched,
+        shop: &mut P,
+    ) -> Reply
         ghost setting: { Setting }
         requires { AreImagesBy (images_of setting) self.old.taken }
         ensures means { TakesGrammar setting self.old.held file.now fetched result self.new.held (P.refused shop.old) (P.refused shop.new) }
@@ -53,7 +66,7 @@ impl<P: PatternShop> State<P> {
     {
         let alloc = self.alloc;
         match fetched {
-            Fetched::Whole(bytes) => self.read_rules(bytes.as_slice(), shop),
+            Fetched::Whole(bytes) => self.read_rules(rt, bytes.as_slice(), shop),
             Fetched::Absent => refused(alloc, &Refusal::NoSuchFile(file.as_str())),
             Fetched::TooLong => refused(alloc, &Refusal::FileTooLong(file.as_str())),
             Fetched::Failed => failed(alloc, file),
@@ -62,13 +75,13 @@ impl<P: PatternShop> State<P> {
     }
 
     /// Holds the grammar that these bytes are, unless a check stands.
-    fn read_rules(&mut self, bytes: &[u8], shop: &mut P) -> Reply
+    fn read_rules<R: Threads + Sync>(&mut self, rt: &R, bytes: &[u8], shop: &mut P) -> Reply
         ghost setting: { Setting }
         requires { AreImagesBy (images_of setting) self.old.taken }
         ensures means { AnswersBeside setting self.old.held (spec.Rules bytes.now) result self.new.held (P.refused shop.old) (P.refused shop.new) }
         ensures serves { (mappers : List (List ℕ × (List ℕ → List ℕ))) → Serves setting mappers self.old → Serves setting mappers self.new }
     {
-        match Rules::<P>::read(self.alloc, &self.corpus, bytes, shop) {
+        match Rules::<P>::read(rt, self.alloc, &self.corpus, bytes, shop) {
             Ok(rules) => self.keep_rules(rules),
             Err(declined) => declined.reply(self.alloc),
         }

@@ -10,11 +10,11 @@ use Rattle.mt_shell.proofs.session.Session.perform.Goals as goal
 pub returns-in-Registry-clause-means : goal.returns-in-Registry-clause-means
 returns-in-Registry-clause-means g c = rw c.in-Registry.is (c.set_registry.ensures.means (g.P.PatternShop.refused c.args.shop.now))
 
-pub add_text-requires-send-M : goal.add_text-requires-send-M
-add_text-requires-send-M g c = λ κs h. (h.0, (h.1.0, (h.1.1, (param_send 2 _ (given_send 1 _ g.row.M c.requires.1.1.1.1.1.0), (said_names (Text c.in-Text.name c.in-Text.body) (rw c.in-Text.is at c.requires.1.1.1.1.1.1.1.0), c.requires.1.1.1.1.1.1.1.1)))))
+pub add_text-requires : goal.add_text-requires
+add_text-requires g c = λ κs h. (h.0, (h.1.0, (h.1.1.0, (h.1.1.1, (param_send 2 _ (given_send 1 _ g.row.M c.requires.1.1.1.1.1.0), (c.requires.1.1.1.1.1.1.0, (said_names (Text c.in-Text.name c.in-Text.body) (rw c.in-Text.is at c.requires.1.1.1.1.1.1.1.0), c.requires.1.1.1.1.1.1.1.1)))))))
 
-pub add_file-requires-send-M : goal.add_file-requires-send-M
-add_file-requires-send-M g c = λ κs h. (h.0, (h.1.0, (h.1.1.0, (h.1.1.1, (param_send 2 _ (given_send 1 _ g.row.M c.requires.1.1.1.1.1.0), (said_names (Add c.in-Add.name c.in-Add.file) (rw c.in-Add.is at c.requires.1.1.1.1.1.1.1.0), c.requires.1.1.1.1.1.1.1.1))))))
+pub add_file-requires : goal.add_file-requires
+add_file-requires g c = λ κs h. (h.0, (h.1.0, (h.1.1.0, (h.1.1.1.0, (h.1.1.1.1, (param_send 2 _ (given_send 1 _ g.row.M c.requires.1.1.1.1.1.0), (c.requires.1.1.1.1.1.1.0, (said_names (Add c.in-Add.name c.in-Add.file) (rw c.in-Add.is at c.requires.1.1.1.1.1.1.1.0), c.requires.1.1.1.1.1.1.1.1))))))))
 
 pub generate-requires : goal.generate-requires
 generate-requires g c = λ κs h. (

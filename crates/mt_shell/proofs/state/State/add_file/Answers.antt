@@ -15,5 +15,5 @@ returns-clause-means g c =
     steps_after g.setting c.args.self.now.held c.take_file.new.self.held (Add c.args.name.now c.args.file.now) c.take_file.result c.args.file.now c.fetch-fetched.result (g.E.Edge.seen c.args.edge.now) (g.E.Edge.seen c.fetch-fetched.new.edge)
     (rw c.as_str-2.ensures at c.fetch-fetched.ensures.finds) (rw c.as_str-2.ensures at c.fetch-fetched.ensures.gained) c.take_file.ensures.means
 
-pub take_file-requires-send-M : goal.take_file-requires-send-M
-take_file-requires-send-M g c = λ κs h. (h.0, (h.1.0, (h.1.1, (c.requires.1.1.1.1.0, search rules))))
+pub take_file-requires : goal.take_file-requires
+take_file-requires g c = λ κs h. (h.0, (h.1.0, (h.1.1.0, (h.1.1.1, (c.requires.1.1.1.1.1.0, (c.requires.1.1.1.1.1.1.0, search rules))))))

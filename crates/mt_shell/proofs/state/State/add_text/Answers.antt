@@ -14,5 +14,5 @@ returns-clause-means g c =
     text_read (record { one_text = c.one_text.ensures; no_fault = c.no_text_with_fault.ensures }) g.setting c.args.self.now.held c.read_text.new.self.held c.args.name.now c.args.body.now c.read_text.result
     (subst (λ (k : Kept). ValidHeld k.held) c.self.view_is c.self.invariant.held).registry (λ h. not_true (c.if-holds.ensures.1 h)) c.read_text.ensures.means
 
-pub read_text-requires-send-M : goal.read_text-requires-send-M
-read_text-requires-send-M g c = λ κs h. (h.0, (h.1.0, (h.1.1, (c.requires.1.1.1.0, search rules))))
+pub read_text-requires : goal.read_text-requires
+read_text-requires g c = λ κs h. (h.0, (h.1.0, (h.1.1.0, (h.1.1.1, (c.requires.1.1.1.1.0, (c.requires.1.1.1.1.1.0, search rules))))))

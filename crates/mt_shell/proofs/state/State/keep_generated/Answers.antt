@@ -35,17 +35,23 @@ generated_segment-requires-clause-text g c = λ κs h.
     let there = c.registry-registry.ensures.registry ∙ ap (λ (k : Kept). k.held.registry) c.self.view_is in
     rw (there, c.in-Ok.ensures) c.requires.1.1.1.1.1.1.0
 
-pub keep_made-requires : goal.keep_made-requires
-keep_made-requires g c = λ κs h.
+pub keep_made-requires-sync-R : goal.keep_made-requires-sync-R
+keep_made-requires-sync-R g c = λ κs h.
     let text = generated_text c.args.name.now c.args.seed c.args.tokens in
     let room = room_here c.args.self.now c.self.inside.accepted (grammar_of c.self.inside.rules) c.self.inside.corpus c.args.name.now c.args.seed c.args.tokens c.self.view_is (λ full. not_true (c.if-is_full.ensures.1 full)) in
     let made = made_of c.self.inside.corpus.registry c.registry-registry.result.now c.args.name.now c.in-Ok.own_name c.args.seed c.args.tokens c.in-Ok-generated_segment.segment c.registry-registry.ensures.registry c.in-Ok.ensures c.in-Ok-generated_segment.ensures in (
       h.0,
       (
-        h.1,
+        h.1.0,
         (
-          record { text = text; may = may_keep c.args.self.now c.self.inside.accepted (grammar_of c.self.inside.rules) c.self.inside.corpus text c.in-Ok-generated_segment.segment c.self.view_is c.requires.1.1.1.1.1.1.0 c.requires.1.1.1.1.0 room made },
-          (no_images (images_of g.setting) c.args.self.now.held.registry c.in-Ok-generated_segment.segment c.requires.1.1.1.1.1.0, c.requires.1.1.1.1.1.1.1),
+          h.1.1,
+          (
+            c.requires.1.1.1.0,
+            (
+              record { text = text; may = may_keep c.args.self.now c.self.inside.accepted (grammar_of c.self.inside.rules) c.self.inside.corpus text c.in-Ok-generated_segment.segment c.self.view_is c.requires.1.1.1.1.1.1.0 c.requires.1.1.1.1.0 room made },
+              (no_images (images_of g.setting) c.args.self.now.held.registry c.in-Ok-generated_segment.segment c.requires.1.1.1.1.1.0, c.requires.1.1.1.1.1.1.1),
+            ),
+          ),
         ),
       ),
     )

@@ -14,7 +14,7 @@ keep_rules-requires g c = λ κs h. (
     h.1,
     (
       subst (λ (corpus : Corpus). AreOver corpus c.in-Ok.rules) (sym (same_corpus c.args.self.now c.self.inside.accepted (grammar_of c.self.inside.rules) c.self.inside.corpus c.self.view_is)) c.in-Ok.ensures.reads.over,
-      c.requires.1.1,
+      c.requires.1.1.1.1,
     ),
   ),
 )
@@ -24,5 +24,5 @@ returns-in-Ok-clause-means g c = rw c.in-Ok.ensures.shop (c.keep_rules.ensures.m
     (subst (λ (corpus : Corpus). ReadsRules corpus c.args.bytes.now c.in-Ok.rules) (sym (same_corpus c.args.self.now c.self.inside.accepted (grammar_of c.self.inside.rules) c.self.inside.corpus c.self.view_is)) c.in-Ok.ensures.reads))
 
 pub returns-in-Err-clause-means : goal.returns-in-Err-clause-means
-returns-in-Err-clause-means g c = rules_declined g.setting c.args.self.now c.args.bytes.now c.in-Err.declined c.reply.result _ _ c.requires.1.1
+returns-in-Err-clause-means g c = rules_declined g.setting c.args.self.now c.args.bytes.now c.in-Err.declined c.reply.result _ _ c.requires.1.1.1.1
     (subst (λ (corpus : Corpus). DeclinesRules corpus c.args.bytes.now (g.P.PatternShop.refused c.args.shop.now) (g.P.PatternShop.refused c.read.new.shop) c.in-Err.declined) (sym (same_corpus c.args.self.now c.self.inside.accepted (grammar_of c.self.inside.rules) c.self.inside.corpus c.self.view_is)) c.in-Err.ensures.declined) c.reply.ensures

@@ -18,5 +18,5 @@ returns-in-Err-Bad-clause-means g c = faulty g.setting c.args.self.now.held c.ar
 pub returns-in-Err-NoMemory-clause-means : goal.returns-in-Err-NoMemory-clause-means
 returns-in-Err-NoMemory-clause-means g c = unread g.setting c.args.self.now.held c.args.name.now c.args.bytes.now
 
-pub keep_text-requires-send-M : goal.keep_text-requires-send-M
-keep_text-requires-send-M g c = λ κs h. (h.0, (h.1.0, (h.1.1, (c.requires.1.1.1.0, search rules))))
+pub keep_text-requires : goal.keep_text-requires
+keep_text-requires g c = λ κs h. (h.0, (h.1.0, (h.1.1.0, (h.1.1.1, (c.requires.1.1.1.1.0, (c.requires.1.1.1.1.1.0, search rules))))))

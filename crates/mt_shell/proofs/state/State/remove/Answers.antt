@@ -1,4 +1,4 @@
-use Rattle.std.proofs.Common.{refl, ◌∙◌}
+use Rattle.std.proofs.Common.{rules, refl, ◌∙◌}
 use Rattle.mt_shell.proofs.Meanings.{not_true}
 use Rattle.mt_shell.proofs.Removing.{removed, none_removed, removed_not, serves_less}
 use Rattle.mt_shell.proofs.state.State.remove.Goals as goal
@@ -19,3 +19,6 @@ returns-clause-means g c =
 
 pub returns-clause-serves : goal.returns-clause-serves
 returns-clause-serves g c = λ mappers s. serves_less g.setting mappers c.args.self.now c.remove_counted.new.self c.args.name.now c.in-Ok-remove_counted.ensures.ok c.remove_counted.ensures.taken s
+
+pub remove_counted-requires-sync-R : goal.remove_counted-requires-sync-R
+remove_counted-requires-sync-R g c = λ κs h. (h.0, (h.1.0, (h.1.1, (c.requires.1.1.1.0, search rules))))
