@@ -52,6 +52,7 @@ impl<P: PatternShop> Rules<P> {
             shop,
         )?;
         let kept = keep_counted(
+            rt,
             alloc,
             &self.grammar,
             &mut self.counts,
@@ -65,7 +66,8 @@ impl<P: PatternShop> Rules<P> {
 }
 
 /// Keeps the text of a segment, which has been counted.
-fn keep_counted(
+fn keep_counted<R: Threads + Sync>(
+    rt: &R,
     alloc: Global,
     grammar: &Grammar,
     counts: &mut GrammarCounts,
@@ -84,7 +86,7 @@ fn keep_counted(
 {
     one_count();
     one_unary_count();
-    counts.add(alloc, more)?;
+    counts.add(rt, alloc, more)?;
     match corpus.keep(segment) {
         Ok(()) => Ok(()),
         Err(_) => {
