@@ -1,5 +1,6 @@
 pub mod Values
 pub mod Assembled
+pub mod Beside
 pub mod Blocks
 pub mod Calls
 pub mod Due

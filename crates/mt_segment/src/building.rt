@@ -1,30 +1,31 @@
 //! Building a segment.
 
-ghost use Rattle.std.specs.Prelude.{◌≡◌, ℕ, ◌<◌, ◌≤◌, None, Some, length, map, sum, IfOk, OnOk};
+ghost use Rattle.std.specs.Prelude.{◌≡◌, ℕ, ◌<◌, ◌≤◌, Some, length, map, sum, IfOk, OnOk};
 ghost use Rattle.std.specs.List.{All, Contains};
 ghost use Rattle.mt_text_spec.specs.Registries.{ValidRegistry};
-ghost use Rattle.mt_text_spec.specs.Texts.{ValidCorpus, text_tokens_limit, corpus_tokens_limit, total_tokens};
+ghost use Rattle.mt_text_spec.specs.Texts.{ValidCorpus, text_tokens_limit};
 ghost use Rattle.mt_segment_spec.specs.Tables as spec;
-ghost use Rattle.mt_segment_spec.specs.Tables.{AreBaseTables, AreTablesOf, column_values, heads_of, tables_at};
-ghost use Rattle.mt_segment.specs.Building.{AreAllMapped, AreUsable, HasBase, HaveBases, IsMappedAt};
+ghost use Rattle.mt_segment_spec.specs.Tables.{AreTablesOf, heads_of, tables_at};
+ghost use Rattle.mt_segment.specs.Building.{AreAllMapped, AreUsable, HasBase, IsMappedAt};
 ghost use Rattle.mt_segment.specs.Ends.{AreEndsOf};
 ghost use Rattle.mt_segment.specs.Mappers.{AreCalled, AreThere, calls_due, calls_of, image_by, named};
 
-use super::columns::base_tables;
+use super::bases::all_base_tables;
 use super::mapped::map_by_name;
 use super::segment::Segment;
-use super::sorting::Sorter;
 use super::structs::all_instances;
-use super::table::{AttrTables, MappedTable, Numbers};
-use mt_base::{Attr, List, NoMemory, Registry, Strings, Text, Value};
-use mt_lexicon::{Lexicon, have_one_lexicon};
+use super::table::AttrTables;
+use mt_base::{Attr, List, NoMemory, Registry, Text, Value};
+use mt_lexicon::have_one_lexicon;
 use mt_mapper::Mapper;
 use std::alloc::Global;
+use std::thread::Threads;
 
 impl Segment {
     /// The segment of these texts under a registry, by the mappers that it names. Each mapped attribute calls its mapper once for each distinct value of its base.
-    /// Where memory runs out half-way, no mapper was called more often than that.
-    pub fn build<M: Mapper>(
+    /// Where memory runs out half-way, no mapper was called more often than that. The base attributes of many tokens are worked on side by side.
+    pub fn build<M: Mapper, R: Threads + Sync>(
+        rt: &R,
         alloc: Global,
         texts: &[Text],
         registry: &Registry,
@@ -42,7 +43,8 @@ impl Segment {
         let heads = heads(alloc, texts)?;
         let ends = ends(alloc, heads.as_slice())?;
         let attrs = registry.attrs().as_slice();
-        let mut tables = all_base_tables(alloc, texts, attrs, ends[ends.len() - 1] as usize)?;
+        let tokens = ends[ends.len() - 1] as usize;
+        let mut tables = all_base_tables(rt, alloc, texts, attrs, tokens)?;
         map_all(alloc, attrs, tables.as_mut_slice(), mappers)?;
         let kinds = registry.kinds().len() as u16;
         let structs = all_instances(alloc, texts, kinds)?;
@@ -74,53 +76,6 @@ pub(crate) fn ends(alloc: Global, texts: &[(Value, u32)]) -> Result<Vec<u32>, No
         ends.push(end)?;
     }
     Ok(ends)
-}
-
-/// The tables of all attributes, of which those of the mapped ones are not made yet.
-fn all_base_tables(
-    alloc: Global,
-    texts: &[Text],
-    attrs: &[Attr],
-    tokens: usize,
-) -> Result<Vec<AttrTables>, NoMemory>
-    requires { total_tokens texts.now ≤ corpus_tokens_limit }
-    ensures { IfOk result (λ tables. HaveBases attrs.now texts.now tables.items (length attrs.now)) }
-{
-    let mut tables = Vec::with_capacity(alloc, attrs.len())?;
-    let mut sorter = Sorter::new(alloc, tokens)?;
-    let mut column = 0;
-    for attr in attrs {
-        tables.push(first_tables(alloc, texts, attr, column, tokens, &mut sorter)?)?;
-        column += attr.is_base() as usize;
-    }
-    Ok(tables)
-}
-
-/// The tables of an attribute if it is a base attribute.
-fn first_tables<'a>(
-    alloc: Global,
-    texts: &'a [Text],
-    attr: &Attr,
-    column: usize,
-    tokens: usize,
-    sorter: &mut Sorter<'a>,
-) -> Result<AttrTables, NoMemory>
-    requires { total_tokens texts.now ≤ corpus_tokens_limit }
-    ensures { IfOk result (λ tables. attr.now.base ≡ None → AreBaseTables (column_values column texts.now) tables) }
-{
-    match attr.base() {
-        None => base_tables(alloc, texts, column, tokens, sorter),
-        Some(base) => Ok(unmade(alloc, base)),
-    }
-}
-
-/// What stands for the tables of a mapped attribute until they are made. It takes no memory.
-fn unmade(alloc: Global, base: u16) -> AttrTables {
-    AttrTables {
-        lexicon: Lexicon::from_strings(Strings::new(alloc)),
-        numbers: Numbers::Mapped(base, MappedTable::new(List::new(alloc))),
-        postings: List::new(alloc),
-    }
 }
 
 /// Makes the tables of the mapped attributes.

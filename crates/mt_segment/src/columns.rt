@@ -31,7 +31,7 @@ pub(crate) fn base_tables<'a>(
 }
 
 /// The same tables for many tokens, whose values are numbered as they are seen.
-fn numbered_tables(
+pub(crate) fn numbered_tables(
     alloc: Global,
     texts: &[Text],
     column: usize,

@@ -4,6 +4,7 @@
 //! instances. Contracts see it as the tables of `mt_segment_spec`, which are always those of valid texts. The texts themselves are not kept.
 #![tactic(auto)]
 
+mod bases;
 mod building;
 mod columns;
 mod inverting;

@@ -1,5 +1,5 @@
 use Rattle.mt_segment.proofs.Assembled.{base_more, column_next}
-use Rattle.mt_segment.proofs.building.all_base_tables.Goals as goal
+use Rattle.mt_segment.proofs.bases.tables_in_turn.Goals as goal
 
 pub loop-attr-preserved : goal.loop-attr-preserved
 loop-attr-preserved c = record {
