@@ -22,6 +22,7 @@ use mt_mapper::Mapper;
 use mt_segment::Segment;
 use std::alloc::Global;
 use std::collections::HashMap;
+use std::thread::Threads;
 
 /// The number of the one text of a segment.
 fn first_alone(alloc: Global) -> Result<List<u32>, NoMemory>
@@ -71,7 +72,12 @@ fn push_text(
 impl Corpus {
     /// Adds a text behind the others, as a segment of its own. After an error the corpus is as it was, but the mappers may have been called: each at most as often
     /// as for an accepted text, which is once for each distinct value of the base of each attribute that is mapped by it.
-    pub fn add<M: Mapper>(&mut self, text: Text, mappers: &mut [M]) -> Result<(), AddError>
+    pub fn add<M: Mapper, R: Threads + Sync>(
+        &mut self,
+        rt: &R,
+        text: Text,
+        mappers: &mut [M],
+    ) -> Result<(), AddError>
         requires text { ValidText self.old.registry text }
         requires mappers { AreThere (map M.called mappers.old) self.old.registry.attrs }
         ensures ok { OnOk result (self.new.groups ≡ self.old.groups ++ alone text ∷ []) }
@@ -91,14 +97,19 @@ impl Corpus {
         if self.is_full(text.len()) {
             return Err(AddError::CorpusFull);
         }
-        match self.add_free(text, mappers) {
+        match self.add_free(rt, text, mappers) {
             Ok(()) => Ok(()),
             Err(NoMemory) => Err(AddError::NoMemory),
         }
     }
 
     /// Adds a text whose name is free and for which there is room.
-    fn add_free<M: Mapper>(&mut self, text: Text, mappers: &mut [M]) -> Result<(), NoMemory>
+    fn add_free<M: Mapper, R: Threads + Sync>(
+        &mut self,
+        rt: &R,
+        text: Text,
+        mappers: &mut [M],
+    ) -> Result<(), NoMemory>
         requires text { ValidText self.old.registry text }
         requires mappers { AreThere (map M.called mappers.old) self.old.registry.attrs }
         requires free { ¬ HoldsName self.old.groups text.name }
@@ -110,13 +121,18 @@ impl Corpus {
         ensures same { named M.called M.image mappers.new ≡ named M.called M.image mappers.old }
         ensures calls { (t : Tables) → AreTablesOf (image_by (named M.called M.image mappers.old)) self.old.registry (text ∷ []) t → AreCalled (calls_due (map M.called mappers.old) t.attrs self.old.registry.attrs) (map M.calls mappers.old) (map M.calls mappers.new) result }
     {
-        let segment = self.build(text, mappers)?;
+        let segment = self.build(rt, text, mappers)?;
         self.keep(segment)
     }
 
     /// Builds the segment of a text, which may then be kept. The text itself is let go. Each mapper is called once for each distinct value of the base of each attribute
     /// that is mapped by it, and no more often where memory runs out half-way.
-    pub fn build<M: Mapper>(&self, text: Text, mappers: &mut [M]) -> Result<Segment, NoMemory>
+    pub fn build<M: Mapper, R: Threads + Sync>(
+        &self,
+        rt: &R,
+        text: Text,
+        mappers: &mut [M],
+    ) -> Result<Segment, NoMemory>
         requires text { ValidText self.now.registry text }
         requires mappers { AreThere (map M.called mappers.old) self.now.registry.attrs }
         ensures made { IfOk result (IsMadeOf self.now.registry text) }
@@ -126,7 +142,7 @@ impl Corpus {
     {
         images_are_decoded();
         let texts = [text];
-        Segment::build(self.alloc, &texts, &self.registry, mappers)
+        Segment::build(rt, self.alloc, &texts, &self.registry, mappers)
     }
 
     /// Keeps the segment of a text behind the others. Without memory nothing changes, and the segment is let go.
