@@ -23,7 +23,7 @@ fn main(rt: HostRuntime) -> io::Result<()> {
             return println!(rt; "out of memory");
         }
     }
-    match show::answers(rt.alloc(), &table) {
+    match show::answers(&rt, rt.alloc(), &table) {
         Ok(text) => print!(rt; "{text}"),
         Err(NoMemory) => println!(rt; "out of memory"),
     }

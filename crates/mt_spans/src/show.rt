@@ -20,6 +20,7 @@ use mt_segment::{Segment, has_mappers};
 use std::alloc::Global;
 use std::marker::Brand;
 use std::sync::ledger::{Blank, Ledger};
+use std::thread::Threads;
 
 /// Why a query has no rows to show.
 #[derive(Clone, Copy, Drop)]
@@ -30,7 +31,11 @@ enum Fault {
 }
 
 /// The answers of all cases.
-pub fn answers(alloc: Global, table: &Table) -> Result<String, NoMemory> {
+pub fn answers<R: Threads + Sync>(
+    rt: &R,
+    alloc: Global,
+    table: &Table,
+) -> Result<String, NoMemory> {
     let mut out = String::new(alloc);
     let fold = Fold::new(alloc)?;
     let mut names = List::new(alloc);
@@ -47,13 +52,14 @@ pub fn answers(alloc: Global, table: &Table) -> Result<String, NoMemory> {
         out.push_str("=== ")?;
         out.push_str(case.title.as_str())?;
         out.push('\n')?;
-        show_case(alloc, case, &registry, &mut out)?;
+        show_case(rt, alloc, case, &registry, &mut out)?;
     }
     Ok(out)
 }
 
 /// The answers of a case.
-fn show_case(
+fn show_case<R: Threads + Sync>(
+    rt: &R,
     alloc: Global,
     case: &Case,
     registry: &Registry,
@@ -66,7 +72,7 @@ fn show_case(
     if texts.is_empty() || !has_mappers(registry, &mappers) {
         return Ok(out.push_str("no segment\n")?);
     }
-    let segment = Segment::build(alloc, texts.as_slice(), registry, &mut mappers)?;
+    let segment = Segment::build(rt, alloc, texts.as_slice(), registry, &mut mappers)?;
     show_asks(alloc, case.asks.as_slice(), registry, &segment, out)
 }
 

@@ -23,7 +23,7 @@ fn main(rt: HostRuntime) -> io::Result<()> {
             return println!(rt; "out of memory");
         }
     }
-    match show::cases(rt.alloc(), cases.as_slice()) {
+    match show::cases(&rt, rt.alloc(), cases.as_slice()) {
         Ok(text) => print!(rt; "{text}"),
         Err(NoMemory) => println!(rt; "out of memory"),
     }

@@ -15,9 +15,10 @@ use mt_segment::{MappedTable, Segment, has_mappers};
 use std::alloc::Global;
 use std::marker::Brand;
 use std::sync::ledger::{Blank, Ledger};
+use std::thread::Threads;
 
 /// The tables of all cases.
-pub fn cases(alloc: Global, cases: &[Case]) -> Result<String, NoMemory> {
+pub fn cases<R: Threads + Sync>(rt: &R, alloc: Global, cases: &[Case]) -> Result<String, NoMemory> {
     let mut mappers: Vec<Box<dyn Mapper>> = Vec::new(alloc);
     mappers.push(Box::new(alloc, Fold::new(alloc)?)?)?;
     mappers.push(Box::new(alloc, Prefix::new(alloc, 2)?)?)?;
@@ -27,7 +28,7 @@ pub fn cases(alloc: Global, cases: &[Case]) -> Result<String, NoMemory> {
         out.push_str("=== ")?;
         out.push_str(case.title.as_str())?;
         out.push('\n')?;
-        show_case(alloc, case, mappers.as_mut_slice(), &mut out)?;
+        show_case(rt, alloc, case, mappers.as_mut_slice(), &mut out)?;
     }
     out.push_str("=== Put together of tables\n")?;
     show_joined(alloc, &mut out)?;
@@ -42,7 +43,8 @@ fn show_joined(alloc: Global, out: &mut String) -> Result<(), NoMemory> {
 }
 
 /// The tables of a case.
-fn show_case<M: Mapper>(
+fn show_case<M: Mapper, R: Threads + Sync>(
+    rt: &R,
     alloc: Global,
     case: &Case,
     mappers: &mut [M],
@@ -54,7 +56,7 @@ fn show_case<M: Mapper>(
         Err(RegistryError::NoMemory) => return Err(NoMemory),
         Err(_) => return Ok(out.push_str("the registry is refused\n")?),
     };
-    show_texts(alloc, case.texts.as_slice(), &registry, mappers, out)
+    show_texts(rt, alloc, case.texts.as_slice(), &registry, mappers, out)
 }
 
 /// The names of mappers.
@@ -67,7 +69,8 @@ fn names_of<M: Mapper>(alloc: Global, mappers: &[M]) -> Result<List<Value>, NoMe
 }
 
 /// The tables of the texts of these verticals.
-fn show_texts<M: Mapper>(
+fn show_texts<M: Mapper, R: Threads + Sync>(
+    rt: &R,
     alloc: Global,
     verticals: &[String],
     registry: &Registry,
@@ -81,7 +84,7 @@ fn show_texts<M: Mapper>(
         out.push_str("no segment\n")?;
         return Ok(());
     }
-    let segment = Segment::build(alloc, texts.as_slice(), registry, mappers)?;
+    let segment = Segment::build(rt, alloc, texts.as_slice(), registry, mappers)?;
     show_segment::<Brand>(alloc, &segment, registry, out, Blank::new(1))
 }
 
