@@ -1,7 +1,8 @@
 //! `text` and `add`.
 
-ghost use Rattle.std.specs.Prelude.{◌≡◌, ℕ, List, length, OnOk, OnErr, IsErrOf};
+ghost use Rattle.std.specs.Prelude.{◌≡◌, ℕ, List, length, IfOk, IfErr, OnOk, OnErr, IsErrOf};
 ghost use Rattle.mt_shelf_spec.specs.Files.{Files};
+ghost use Rattle.mt_file_spec.specs.Vertical.{Vertical};
 ghost use Rattle.mt_text_spec.specs.Words.{IsName};
 ghost use Rattle.mt_text_spec.specs.Texts as texts;
 ghost use Rattle.mt_text_spec.specs.Texts.{ValidText};
@@ -28,7 +29,7 @@ use mt_mapper::Mapper;
 use mt_pattern::PatternShop;
 use mt_segment::Segment;
 use mt_session_laws::held_is_valid;
-use mt_vertical::{TextError, no_text_with_fault, one_text, read_text, valid_texts};
+use mt_vertical::{TextError, no_text_with_fault, one_text, read_text};
 use std::thread::Threads;
 
 impl<P: PatternShop> State<P> {
@@ -104,7 +105,10 @@ impl<P: PatternShop> State<P> {
         no_text_with_fault();
         let alloc = self.alloc;
         match fetched {
-            Fetched::Whole(bytes) => self.read_text(rt, name, bytes.as_slice(), mappers, shop),
+            Fetched::Whole(bytes) => match self.text_in(name, bytes) {
+                Ok(text) => self.keep_text(rt, text, mappers, shop),
+                Err(reply) => reply,
+            },
             Fetched::Absent => refused(alloc, &Refusal::NoSuchFile(file.as_str())),
             Fetched::TooLong => refused(alloc, &Refusal::FileTooLong(file.as_str())),
             Fetched::Failed => failed(alloc, file),
@@ -129,14 +133,36 @@ impl<P: PatternShop> State<P> {
         ensures serves { Serves setting (named M.called M.image mappers.new.items) self.new }
         ensures shop { P.refused shop.new ≡ P.refused shop.old }
     {
-        valid_texts();
+        match self.text_of(name, bytes) {
+            Ok(text) => self.keep_text(rt, text, mappers, shop),
+            Err(reply) => reply,
+        }
+    }
+
+    /// The text of this name that the bytes of a file are, or the reply where they are none. The bytes are let go, so they take no room beside the text's segment.
+    fn text_in(&self, name: &Value, bytes: mt_base::List<u8>) -> Result<Text, Reply>
+        requires { IsName name.now }
+        ensures text { IfOk result (λ text. Vertical self.now.held.registry name.now bytes text) }
+        ensures valid { IfOk result (λ text. ValidText self.now.held.registry text) }
+        ensures reply { (setting : Setting) → IfErr result (λ reply. ReadsText setting self.now.held name.now bytes reply self.now.held) }
+    {
+        self.text_of(name, bytes.as_slice())
+    }
+
+    /// The text of this name that these bytes are, or the reply where they are none.
+    fn text_of(&self, name: &Value, bytes: &[u8]) -> Result<Text, Reply>
+        requires { IsName name.now }
+        ensures text { IfOk result (λ text. Vertical self.now.held.registry name.now bytes.now text) }
+        ensures valid { IfOk result (λ text. ValidText self.now.held.registry text) }
+        ensures reply { (setting : Setting) → IfErr result (λ reply. ReadsText setting self.now.held name.now bytes.now reply self.now.held) }
+    {
         let Ok(own_name) = name.copy(self.alloc) else {
-            return Reply::NoMemory;
+            return Err(Reply::NoMemory);
         };
         match read_text(self.alloc, own_name, bytes, self.corpus.registry()) {
-            Ok(text) => self.keep_text(rt, text, mappers, shop),
-            Err(TextError::Bad(line)) => refused(self.alloc, &Refusal::BadVertical(line)),
-            Err(TextError::NoMemory) => Reply::NoMemory,
+            Ok(text) => Ok(text),
+            Err(TextError::Bad(line)) => Err(refused(self.alloc, &Refusal::BadVertical(line))),
+            Err(TextError::NoMemory) => Err(Reply::NoMemory),
         }
     }
 
@@ -160,7 +186,7 @@ impl<P: PatternShop> State<P> {
         if self.corpus.is_full(tokens) {
             return refused(self.alloc, &Refusal::CorpusFull);
         }
-        let Ok(segment) = self.corpus.build(text, mappers) else {
+        let Ok(segment) = self.corpus.build(rt, text, mappers) else {
             return Reply::NoMemory;
         };
         self.keep_made(rt, tokens, segment, shop)

@@ -1,4 +1,4 @@
 use Rattle.mt_shell.proofs.state.State.take_file.Given as goal
 
-abbrev pub ghost-read_text : goal.ghost-read_text
-ghost-read_text g a = g.setting
+abbrev pub ghost-keep_text : goal.ghost-keep_text
+ghost-keep_text g a = g.setting
