@@ -51,19 +51,14 @@ impl GrammarCounts {
 
     /// Adds what was noted over other texts, at the cost of what was. Out of memory, or where all counts together would be 2^64 or more, each count is as it was. The
     /// contexts are let go.
-    pub fn add<R: Threads + Sync>(
-        &mut self,
-        rt: &R,
-        alloc: Global,
-        text: &Noted,
-    ) -> Result<(), NoMemory>
+    pub fn add(&mut self, alloc: Global, text: &Noted) -> Result<(), NoMemory>
         ensures ok { (images : Images) (registry : registries.Registry) (grammar : queries.Grammar) (corpus others : Items texts.Text) → AreCountsOf images registry grammar corpus self.old
             → AreCountsOf images registry grammar others text.now.counted → OnOk result (AreCountsOf images registry grammar (corpus ++ others) self.new) }
         ensures err { (images : Images) (registry : registries.Registry) (grammar : queries.Grammar) (corpus : Items texts.Text) → AreCountsOf images registry grammar corpus self.old
             → OnErr result (AreCountsOf images registry grammar corpus self.new) }
     {
         self.contexts = None;
-        self.triples.add(rt, alloc, text)
+        self.triples.add(alloc, text)
     }
 
     /// Takes away the counts over some of the texts, wherever these stand among them, at the cost of what they have, and lets the contexts go. It takes no memory.

@@ -9,7 +9,7 @@ use Rattle.std.proofs.lemmas.List.Elements.{All-nil, All-cons, All-head, All-tai
 use Rattle.std.proofs.lemmas.Option.{slice_get_within}
 use Rattle.std.proofs.lemmas.Slice.Zip.{AllZip-long}
 use Rattle.mt_counts.specs.Totals.{total, total_of_all, AddUp}
-use Rattle.mt_counts.specs.Tallies.{AreKeysBelow, Grows, HasKeysBelow, IsAt, IsKeyed, IsPaired, each_once}
+use Rattle.mt_counts.specs.Tallies.{AreKeysBelow, Grows, HasKeysBelow, IsAt, each_once}
 use Rattle.mt_counts.specs.Counted.{IsSum}
 use Rattle.mt_counts.specs.Tables.{AreGrown, by_row, counted, named_word, text_at, three_of}
 use Rattle.mt_counts.specs.Notes.{IsNoteIn, alone_of, columns_of, key_of_one, key_of_two, noted, pairs_of, rows_of, with_one, with_two}
@@ -124,18 +124,6 @@ module _ (t : Tables) (rows both columns alone : List ((ℕ × ℕ) × ℕ)) whe
     alone = a;
     inside = inside_more t with (begins_none t.names) (begins_none t.words) r keep_rows keep_both keep_columns keep_alone;
   }
-
--- tables that have grown by these keys
-pub grown_keyed : (t u : Tables) (rows columns alone : List (ℕ × ℕ)) → u.names ≡ t.names → u.words ≡ t.words → IsKeyed t.rows rows u.rows → IsPaired t.both columns (length u.rows) u.both → IsKeyed t.columns columns u.columns → IsKeyed t.alone alone u.alone →
-    AreKeysBelow (length t.words) (length t.names) rows → AreKeysBelow (length t.words) (length t.names) columns → AreKeysBelow (length t.words) (length t.names) alone → AreGrown t u
-grown_keyed t u rows columns alone n w r b c a rows_low columns_low alone_low =
-    let is : u ≡ with t u.rows u.both u.columns u.alone = λ i. record { names = n i; words = w i; rows = u.rows; both = u.both; columns = u.columns; alone = u.alone } in
-    subst (λ (v : Tables). AreGrown t v) (sym is)
-    (grown_by t u.rows u.both u.columns u.alone r.grows b.grows c.grows a.grows
-    (λ h. r.below (length t.words) (length t.names) h rows_low)
-    (λ h. b.below (length t.words) (length t.names) h columns_low)
-    (λ h. c.below (length t.words) (length t.names) h columns_low)
-    (λ h. a.below (length t.words) (length t.names) h alone_low))
 
 pub grown_none : (t : Tables) → AreGrown t t
 grown_none t = grown_by t t.rows t.both t.columns t.alone (grows_none t.rows) (grows_none t.both) (grows_none t.columns) (grows_none t.alone) (λ h. h) (λ h. h) (λ h. h) (λ h. h)

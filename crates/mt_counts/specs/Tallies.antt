@@ -56,13 +56,3 @@ AreKeysBelow groups members keys = All (λ key. (key.0 < groups) × (key.1 < mem
 -- each of the keys counts once, as often as it is there
 abbrev pub each_once : {K : Type 0} → List K → List (K × ℕ)
 each_once keys = map (λ key. (key, 1)) keys
-
--- keys were added, and none but these
-pub record IsKeyed (old : List ((ℕ × ℕ) × ℕ)) (keys : List (ℕ × ℕ)) (new : List ((ℕ × ℕ) × ℕ)) : Type 0 where
-  pub grows : Grows old new
-  pub below : (groups members : ℕ) → HasKeysBelow groups members old → AreKeysBelow groups members keys → HasKeysBelow groups members new
-
--- pairs of so many rows with the words of some columns were added
-pub record IsPaired (old : List ((ℕ × ℕ) × ℕ)) (columns : List (ℕ × ℕ)) (rows : ℕ) (new : List ((ℕ × ℕ) × ℕ)) : Type 0 where
-  pub grows : Grows old new
-  pub below : (words names : ℕ) → HasKeysBelow rows words old → AreKeysBelow words names columns → HasKeysBelow rows words new

@@ -9,7 +9,6 @@ use super::tables::Tables;
 use mt_base::NoMemory;
 use std::alloc::Global;
 use std::marker::Model;
-use std::thread::Threads;
 
 /// How often names stand with words. A count stands under numbers of its name and words, which are each kept once.
 #[derive(Drop)]
@@ -41,14 +40,8 @@ impl Counts {
         }
     }
 
-    /// Adds what a text counts, at the cost of what it has. What a large text counts is looked for by two threads. Out of memory, or where all counts together would be
-    /// 2^64 or more, each count is as it was.
-    pub fn add<R: Threads + Sync>(
-        &mut self,
-        rt: &R,
-        alloc: Global,
-        text: &Noted,
-    ) -> Result<(), NoMemory>
+    /// Adds what a text counts, at the cost of what it has. Out of memory, or where all counts together would be 2^64 or more, each count is as it was.
+    pub fn add(&mut self, alloc: Global, text: &Noted) -> Result<(), NoMemory>
         ensures ok { OnOk result (IsSum self.old text.now.counted self.new) }
         ensures err { OnErr result (HaveSame self.old self.new) }
     {
@@ -57,7 +50,6 @@ impl Counts {
         }
         self.tables.both.make_room(text.notes.len())?;
         let added = self.tables.add_all(
-            rt,
             alloc,
             &mut self.room,
             &text.names,

@@ -189,7 +189,7 @@ pub(crate) fn add_segments<P: PatternShop, R: Threads + Sync, L: Ledger>(
             shop,
             steps,
         )?;
-        triples.add(rt, alloc, counts.noted())?;
+        triples.add(alloc, counts.noted())?;
     }
     Ok(())
 }

@@ -52,7 +52,6 @@ impl<P: PatternShop> Rules<P> {
             shop,
         )?;
         let kept = keep_counted(
-            rt,
             alloc,
             &self.grammar,
             &mut self.counts,
@@ -66,8 +65,7 @@ impl<P: PatternShop> Rules<P> {
 }
 
 /// Keeps the text of a segment, which has been counted.
-fn keep_counted<R: Threads + Sync>(
-    rt: &R,
+fn keep_counted(
     alloc: Global,
     grammar: &Grammar,
     counts: &mut GrammarCounts,
@@ -86,7 +84,7 @@ fn keep_counted<R: Threads + Sync>(
 {
     one_count();
     one_unary_count();
-    counts.add(rt, alloc, more)?;
+    counts.add(alloc, more)?;
     match corpus.keep(segment) {
         Ok(()) => Ok(()),
         Err(_) => {

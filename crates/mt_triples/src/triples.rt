@@ -18,7 +18,6 @@ use mt_count_laws::{one_count, one_unary_count};
 use mt_counts::{Counts, Head, Noted, Numbered, Pair};
 use std::alloc::Global;
 use std::marker::Model;
-use std::thread::Threads;
 
 /// What a grammar counts over some texts. Contracts speak of any texts, grammar, registry and images whose counts these are.
 #[derive(Drop)]
@@ -45,12 +44,7 @@ impl Triples {
     }
 
     /// Adds what is noted over other texts, at the cost of what that is. Out of memory, or where all counts together would be 2^64 or more, each count is as it was.
-    pub fn add<R: Threads + Sync>(
-        &mut self,
-        rt: &R,
-        alloc: Global,
-        text: &Noted,
-    ) -> Result<(), NoMemory>
+    pub fn add(&mut self, alloc: Global, text: &Noted) -> Result<(), NoMemory>
         ensures ok { (images : Images) (registry : registries.Registry) (grammar : queries.Grammar) (corpus others : Items texts.Text) → AreCountsOf images registry grammar corpus self.old
             → AreCountsOf images registry grammar others text.now.counted → OnOk result (AreCountsOf images registry grammar (corpus ++ others) self.new) }
         ensures err { (images : Images) (registry : registries.Registry) (grammar : queries.Grammar) (corpus : Items texts.Text) → AreCountsOf images registry grammar corpus self.old
@@ -58,7 +52,7 @@ impl Triples {
     {
         sums_are_counts();
         same_count_same();
-        self.counts.add(rt, alloc, text)
+        self.counts.add(alloc, text)
     }
 
     /// Takes away what is noted over some of the texts, wherever these stand among them, at the cost of what that is. It takes no memory.

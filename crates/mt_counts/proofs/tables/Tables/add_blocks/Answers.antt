@@ -10,7 +10,7 @@ use Rattle.mt_counts.proofs.Counting.{grown_none}
 use Rattle.mt_counts.proofs.tables.Tables.add_blocks.Goals as goal
 
 pub loop-done-init : goal.loop-done-init
-loop-done-init g c = record {
+loop-done-init c = record {
   within = omega arith;
   inside = c.requires.inside;
   room = room_grown c.args.self.now c.args.self.now (length c.args.notes.now) (length c.args.notes.now - 0) (grown_none c.args.self.now) (omega arith) c.requires.room;
@@ -20,7 +20,7 @@ loop-done-init g c = record {
 }
 
 pub loop-done-preserved : goal.loop-done-preserved
-loop-done-preserved g c =
+loop-done-preserved c =
     let names = c.args.names.now in
     let words = c.args.words.now in
     let notes = c.args.notes.now in
@@ -38,10 +38,10 @@ loop-done-preserved g c =
     }
 
 pub returns-clause-ok : goal.returns-clause-ok
-returns-clause-ok g c =
+returns-clause-ok c =
     subst (λ (ns : List Note). IsSum (counted c.args.self.now) (noted c.args.names.now c.args.words.now ns) (counted c.loop-done.self)) (take_all c.loop-done.done c.args.notes.now c.loop-done-test.false) c.loop-done.invariant.sum
 
 pub returns-in-Err-clause-err : goal.returns-in-Err-clause-err
-returns-in-Err-clause-err g c =
+returns-in-Err-clause-err c =
     taken_back (counted c.args.self.now) (noted c.args.names.now c.args.words.now (take c.loop-done.done c.args.notes.now)) (counted c.loop-done.self) (counted c.add_some.new.self) (counted c.lower_all.new.self) c.loop-done.invariant.sum c.in-Err.ensures.err
     c.lower_all.ensures.taken

@@ -7,7 +7,7 @@ use Rattle.mt_counts.specs.Tables.{AreInside, HasRoomFor, counted}
 use Rattle.mt_counts.proofs.tables.Tables.add_blocks.Given as goal
 
 abbrev pub invariant-loop-done : goal.invariant-loop-done
-invariant-loop-done g l = record {
+invariant-loop-done l = record {
   within : l.done ≤ length l.notes;
   inside : AreInside l.self;
   room : HasRoomFor l.self (length l.notes - l.done);
@@ -17,4 +17,4 @@ invariant-loop-done g l = record {
 }
 
 abbrev pub decreases-loop-done : goal.decreases-loop-done
-decreases-loop-done g l = length l.notes - l.done
+decreases-loop-done l = length l.notes - l.done

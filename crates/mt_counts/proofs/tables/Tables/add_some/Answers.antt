@@ -11,18 +11,18 @@ use Rattle.mt_counts.proofs.Sums.{grown_same, sum_behind}
 use Rattle.mt_counts.proofs.tables.Tables.add_some.Goals as goal
 
 pub take-requires-clause-names : goal.take-requires-clause-names
-take-requires-clause-names g c = λ k d l. let h = c.requires.notes k d l in omega (arith, h.name, c.requires.names.count, ap length c.as_slice.ensures.value)
+take-requires-clause-names c = λ k d l. let h = c.requires.notes k d l in omega (arith, h.name, c.requires.names.count, ap length c.as_slice.ensures.value)
 
 pub take-requires-clause-first : goal.take-requires-clause-first
-take-requires-clause-first g c = λ k d l. let h = c.requires.notes k d l in omega (arith, h.first, c.requires.words.count, ap length c.as_slice-2.ensures.value)
+take-requires-clause-first c = λ k d l. let h = c.requires.notes k d l in omega (arith, h.first, c.requires.words.count, ap length c.as_slice-2.ensures.value)
 
 pub take-requires-clause-second : goal.take-requires-clause-second
-take-requires-clause-second g c = λ k d l.
+take-requires-clause-second c = λ k d l.
     let h = c.requires.notes k d l in
     some_so _ (λ second. second < length c.args.words.now) (λ second. second < length c.as_slice-2.result.now) (λ second m. omega (arith, m, c.requires.words.count, ap length c.as_slice-2.ensures.value)) h.second
 
 pub place_block-requires-clause-notes : goal.place_block-requires-clause-notes
-place_block-requires-clause-notes g c = λ lifetimes outlive.
+place_block-requires-clause-notes c =
     let n = c.args.room.now.names.items in
     let w = c.args.room.now.words.items in
     let is : c.take.new.self.notes.items ≡ map (renumbered n w) c.args.notes.now = c.in_ok-take.ensures ∙ ap₂ (λ (n w : List ℕ). map (renumbered n w) c.args.notes.now) c.as_slice.ensures.value c.as_slice-2.ensures.value in
@@ -30,10 +30,10 @@ place_block-requires-clause-notes g c = λ lifetimes outlive.
     (notes_moved c.args.names.now c.args.words.now c.args.self.now.names c.args.self.now.words n w c.requires.names c.requires.words c.args.notes.now c.requires.notes)
 
 pub raise_block-requires-clause-inside : goal.raise_block-requires-clause-inside
-raise_block-requires-clause-inside g c = c.in_ok-place_block.ensures.grown.inside c.requires.inside
+raise_block-requires-clause-inside c = c.in_ok-place_block.ensures.grown.inside c.requires.inside
 
 pub raise_block-requires-clause-notes : goal.raise_block-requires-clause-notes
-raise_block-requires-clause-notes g c =
+raise_block-requires-clause-notes c =
     let n = c.args.room.now.names.items in
     let w = c.args.room.now.words.items in
     let is : c.take.new.self.notes.items ≡ map (renumbered n w) c.args.notes.now = c.in_ok-take.ensures ∙ ap₂ (λ (n w : List ℕ). map (renumbered n w) c.args.notes.now) c.as_slice.ensures.value c.as_slice-2.ensures.value in
@@ -42,25 +42,25 @@ raise_block-requires-clause-notes g c =
     (notes_moved c.args.names.now c.args.words.now c.args.self.now.names c.args.self.now.words n w c.requires.names c.requires.words c.args.notes.now c.requires.notes)
 
 pub raise_block-requires-clause-room : goal.raise_block-requires-clause-room
-raise_block-requires-clause-room g c =
+raise_block-requires-clause-room c =
     let moved = renumbered c.as_slice.result.now c.as_slice-2.result.now in
     let count : length c.place_block.new.block.notes.items ≡ length c.args.notes.now =
     ap (λ (ns : List Note). length ns) (c.in_ok-place_block.ensures.notes ∙ c.in_ok-take.ensures) ∙ length-map c.args.notes.now moved in
     room_grown c.args.self.now c.place_block.new.self (length c.args.notes.now) (length c.place_block.new.block.notes.items) c.in_ok-place_block.ensures.grown (omega (arith, count)) c.requires.room
 
 pub returns-in_err-take-clause-err : goal.returns-in_err-take-clause-err
-returns-in_err-take-clause-err g c = let same : HaveSame (counted c.args.self.now) (counted c.args.self.now) = same_counts (counted c.args.self.now) (counted c.args.self.now) refl in search rules
+returns-in_err-take-clause-err c = let same : HaveSame (counted c.args.self.now) (counted c.args.self.now) = same_counts (counted c.args.self.now) (counted c.args.self.now) refl in search rules
 
 pub returns-in_err-place_block-clause-err : goal.returns-in_err-place_block-clause-err
-returns-in_err-place_block-clause-err g c =
+returns-in_err-place_block-clause-err c =
     let same : HaveSame (counted c.args.self.now) (counted c.place_block.new.self) = grown_same c.args.self.now c.place_block.new.self c.requires.inside c.in_err-place_block.ensures.grown in
     search rules
 
 pub returns-in_err-place_block-clause-inside : goal.returns-in_err-place_block-clause-inside
-returns-in_err-place_block-clause-inside g c = c.in_err-place_block.ensures.grown.inside c.requires.inside
+returns-in_err-place_block-clause-inside c = c.in_err-place_block.ensures.grown.inside c.requires.inside
 
 pub returns-clause-ok : goal.returns-clause-ok
-returns-clause-ok g c =
+returns-clause-ok c =
     let n = c.args.room.now.names.items in
     let w = c.args.room.now.words.items in
     let t = c.args.self.now in

@@ -16,10 +16,10 @@ returns-in_err-count_added-clause-too_many g c = λ text may h images by.
     (c.in_err-count_added.ensures.too_many images text may by (ap Err (same_error c.from_residual.result c.in_err-count_added.field-0.0 TooManyRows c.from_residual.ensures.1 h))))
 
 pub keep_counted-kept-requires-clause-over : goal.keep_counted-kept-requires-clause-over
-keep_counted-kept-requires-clause-over g c = λ lifetimes outlive. subst (λ (r : Ruled). AreOver c.args.corpus.now r) (sym c.self.view_is) c.requires.over
+keep_counted-kept-requires-clause-over g c = subst (λ (r : Ruled). AreOver c.args.corpus.now r) (sym c.self.view_is) c.requires.over
 
 pub keep_counted-kept-requires-clause-counts : goal.keep_counted-kept-requires-clause-counts
-keep_counted-kept-requires-clause-counts g c = λ lifetimes outlive. λ text may. record {
+keep_counted-kept-requires-clause-counts g c = λ text may. record {
   counts = λ images by.
       subst (λ (counted : Counted). AreCountsOf images c.args.corpus.now.registry c.self.inside.grammar (text ∷ []) counted) (sym c.noted.ensures) (c.in_ok-count_added.ensures.counts images text may by);
   room = λ images by. c.in_ok-count_added.ensures.room images text may by;
