@@ -1,5 +1,7 @@
 -- Rows whose spans and labels are kept apart: how many there are, which stands at a place, and what a push or a cut leaves.
 use Rattle.std.proofs.Common.{◌≡◌, ℕ, zero, suc, ◌+◌, ◌≤◌, Bool, true, false, List, [], ◌∷◌, ◌++◌, length, map, take, replicate, slice_get, Some, None, IsSomeAnd, refl, ap, sym, ◌∙◌, arith}
+use Rattle.std.specs.List.{All, AllByRecursion}
+use Rattle.std.proofs.lemmas.List.Elements.{All-from_recursion}
 use Rattle.mt_text_spec.specs.Texts.{Span, Row}
 use Rattle.mt_match_spec.specs.Labels.{no_labels}
 use Rattle.mt_rows.specs.Rows.{joined}
@@ -34,6 +36,16 @@ span_at (s ∷ spans) [] zero span e = let same : span ≡ s = cc in same
 span_at (s ∷ spans) [] (suc i) span e = span_at spans [] i span e
 span_at (s ∷ spans) (l ∷ labels) zero span e = let same : span ≡ s = cc in same
 span_at (s ∷ spans) (l ∷ labels) (suc i) span e = span_at spans labels i span e
+
+-- ---- where there are no labels, none is set
+
+plain_each : (spans : List Span) (labels : List (List ℕ)) → length labels ≡ 0 → AllByRecursion (λ (row : Row). row.labels ≡ no_labels) (joined spans labels)
+plain_each [] labels none = record {}
+plain_each (s ∷ spans) [] none = (refl, plain_each spans [] none)
+plain_each (s ∷ spans) (l ∷ labels) none = absurd (omega (arith, none))
+
+pub plain_rows : (spans : List Span) (labels : List (List ℕ)) → length labels ≡ 0 → All (λ (row : Row). row.labels ≡ no_labels) (joined spans labels)
+plain_rows spans labels none = All-from_recursion (λ (row : Row). row.labels ≡ no_labels) (joined spans labels) (plain_each spans labels none)
 
 -- ---- a cut and a push
 

@@ -1,6 +1,6 @@
 //! The labels of rows, of which those that are seldom set take no memory until they are.
 
-ghost use Rattle.std.specs.Prelude.{◌≡◌, ◌-◌, ◌≤◌, [], ◌∷◌, ◌++◌, true, length, take, drop, replicate, slice_get, OnOk, OnErr};
+ghost use Rattle.std.specs.Prelude.{◌≡◌, ◌-◌, ◌≤◌, [], ◌∷◌, ◌++◌, true, length, take, drop, replicate, nat_eq, slice_get, OnOk, OnErr};
 ghost use Rattle.mt_match_spec.specs.Labels.{no_labels};
 ghost use Rattle.mt_text_spec.specs.Texts.{unset};
 ghost use Rattle.mt_rows.specs.LabelSets.{no_others};
@@ -38,6 +38,13 @@ impl LabelSets {
             pairs: Vec::new(alloc),
             others: Vec::new(alloc),
         }
+    }
+
+    /// Whether there are none.
+    pub(crate) fn is_empty(&self) -> bool
+        ensures { result ≡ nat_eq (length self.now) 0 }
+    {
+        self.pairs.is_empty()
     }
 
     /// The labels at a place, where there are some.

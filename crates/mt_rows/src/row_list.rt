@@ -1,11 +1,12 @@
 //! Rows in ascending order.
 
-ghost use Rattle.std.specs.Prelude.{◌≡◌, ◌<◌, [], length, nat_eq, slice_get, Some, IfOk, OnOk, OnErr, IsSomeAnd};
-ghost use Rattle.std.specs.List.{Contains};
+ghost use Rattle.std.specs.Prelude.{◌≡◌, ◌<◌, [], length, map, nat_eq, slice_get, Some, IfOk, OnOk, OnErr, IsSomeAnd, IsTrue};
+ghost use Rattle.std.specs.List.{All, Contains};
 ghost use Rattle.std.specs.List.Retain.{IsFiltered, DiffersFromLast};
 ghost use Rattle.std.specs.Ordering.{eq_by_cmp};
 ghost use Rattle.std.specs.List.Sorted.{IsStrictlySortedBy};
 ghost use Rattle.mt_text_spec.specs.Orders.{span_cmp, row_cmp};
+ghost use Rattle.mt_match_spec.specs.Labels.{no_labels};
 ghost use Rattle.mt_match_spec.specs.Rows.{ListsAll};
 ghost use Rattle.mt_match_spec.specs.Kept.{Passes};
 ghost use Rattle.mt_rows.specs.Filters.{within_kind, containing_kind};
@@ -68,6 +69,13 @@ impl RowList {
         self.rows.is_empty()
     }
 
+    /// Whether no row has a label set, as far as that is known without looking at them.
+    pub fn are_unlabelled(&self) -> bool
+        ensures { IsTrue result → All (λ row. row.labels ≡ no_labels) self.now }
+    {
+        self.rows.are_unlabelled()
+    }
+
     /// The row at a place, counted from 0.
     pub fn get(&self, i: usize) -> Row
         requires { i < length self.now }
@@ -82,6 +90,13 @@ impl RowList {
         ensures { IsSomeAnd (slice_get self.now i) (λ row. result ≡ row.span) }
     {
         self.rows.span(i)
+    }
+
+    /// The span of each row, in order.
+    pub fn as_spans(&self) -> &[Span]
+        ensures { result.now ≡ map (λ row. row.span) self.now }
+    {
+        self.rows.as_spans()
     }
 
     /// The spans of the rows, ascending, each once.

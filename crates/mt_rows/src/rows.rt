@@ -1,6 +1,7 @@
 //! Rows in any order.
 
-ghost use Rattle.std.specs.Prelude.{◌≡◌, ◌<◌, [], ◌∷◌, ◌++◌, false, length, map, take, nat_eq, slice_get, Some, OnOk, OnErr, IsSomeAnd};
+ghost use Rattle.std.specs.Prelude.{◌≡◌, ◌<◌, [], ◌∷◌, ◌++◌, false, length, map, take, nat_eq, slice_get, Some, OnOk, OnErr, IsSomeAnd, IsTrue};
+ghost use Rattle.std.specs.List.{All};
 ghost use Rattle.mt_match_spec.specs.Labels.{no_labels};
 ghost use Rattle.mt_rows.specs.Marks.{kept};
 
@@ -54,6 +55,13 @@ impl Rows {
         self.len() == 0
     }
 
+    /// Whether no row has a label set, as far as that is known without looking at them: it is not said where labels were kept once, and only rows without a label are left.
+    pub fn are_unlabelled(&self) -> bool
+        ensures { IsTrue result → All (λ row. row.labels ≡ no_labels) self.now }
+    {
+        self.labels.is_empty()
+    }
+
     /// The row at a place, counted from 0.
     pub fn get(&self, i: usize) -> Row
         requires { i < length self.now }
@@ -86,7 +94,7 @@ impl Rows {
         ensures ok { OnOk result (self.new ≡ self.old ++ row ∷ []) }
         ensures err { OnErr result (self.new ≡ self.old) }
     {
-        if !is_labelled(&row) {
+        if !are_set(row.labels()) {
             return self.push_unlabelled(row.span());
         }
         let at = self.spans.len();
@@ -135,10 +143,16 @@ impl Rows {
     }
 }
 
-/// Whether some label is set. Label 1 is looked at first, since it is set in most rows that have labels.
-fn is_labelled(row: &Row) -> bool
-    ensures { result ≡ false → row.now.labels ≡ no_labels }
+/// Whether one of these labels is set. They are looked at one by one, label 1 first, since it is set in most rows that have labels. So those of a row that was just made are not read in
+/// wider pieces than they were written in.
+fn are_set(labels: &[u32; 9]) -> bool
+    ensures { result ≡ false → labels.now ≡ no_labels }
 {
-    let labels = row.labels();
-    labels[0] != Row::UNSET || *labels != [Row::UNSET; 9]
+    let _nine = *labels;
+    for i in 0..9 {
+        if labels[i] != Row::UNSET {
+            return true;
+        }
+    }
+    false
 }
