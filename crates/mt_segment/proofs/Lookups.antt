@@ -1,10 +1,12 @@
 -- What is whole of tables that were read, and of instances and bounds.
-use Rattle.std.proofs.Common.{◌≡◌, ℕ, ◌+◌, ◌<◌, ◌≤◌, List, [], length, map, take, get_or, sum, None, Some, sym, ◌∙◌, ap, subst, arith}
-use Rattle.std.proofs.lemmas.List.{get_or_default}
+use Rattle.std.proofs.Common.{◌≡◌, ℕ, zero, suc, ◌+◌, ◌-◌, ◌^◌, ◌<◌, ◌≤◌, List, [], ◌∷◌, length, map, take, get_or, sum, None, Some, refl, sym, ◌∙◌, ap, subst, arith}
+use Rattle.std.proofs.lemmas.List.{get_or_default, take_all}
 use Rattle.std.proofs.lemmas.List.Sums.{sum-map, sum_by-take-le}
-use Rattle.mt_segment_spec.specs.Tables.{Tables, AttrTables, number_at, number_by, tables_at, token_count}
+use Rattle.mt_segment_spec.specs.Tables.{Tables, AttrTables, AreTables, first_place, number_at, number_by, tables_at, token_count}
 use Rattle.mt_segment_laws.specs.Laws.{AreWhole}
 use Rattle.mt_segment.specs.Ends.{AreFirstEnds}
+use Rattle.mt_segment.proofs.Assembled.{end_more}
+use Rattle.mt_segment.proofs.Parted.{tokens_fit}
 
 pub record IsRead (tables : Tables) (attr : ℕ) (read : AttrTables) : Type 0 where
   pub within : attr < length tables.attrs
@@ -59,10 +61,28 @@ list_read tables now whole view attr number read h l d =
     get_or_default read.postings number d [] (list_there tables now whole view attr number read h l)
     ∙ ap (λ (t : AttrTables). get_or t.postings number []) (sym (read_is tables attr read h)) ∙ ap (λ (t : Tables). get_or (tables_at t.attrs attr).postings number []) view
 
--- a text ends within the segment
-pub ends_within : (tables now : Tables) (ends : List ℕ) (text end : ℕ) → tables ≡ now → AreFirstEnds tables.texts ends (length tables.texts) → text < length now.texts → end ≡ get_or ends text end → end ≤ token_count now
-ends_within tables now ends text end view h l is =
-    let within : text < length tables.texts = omega (arith, ap (λ (t : Tables). length t.texts) view) in
-    let at : end ≡ sum (map (λ head. head.1) (take (text + 1) tables.texts)) = is ∙ get_or_default ends text end 0 (omega (arith, h.count)) ∙ h.at text within in
-    let tokens_in : List ℕ × ℕ → ℕ = λ head. head.1 in
-    omega (arith, at, sum-map tokens_in (take (text + 1) tables.texts), sum-map tokens_in tables.texts, sum_by-take-le tokens_in tables.texts (text + 1), ap (λ (t : Tables). token_count t) view)
+-- ---- where a text begins and ends
+
+abbrev tokens_in : List ℕ × ℕ → ℕ
+tokens_in head = head.1
+
+pub begins_there : (tables now : Tables) (ends : List ℕ) (text begin : ℕ) → tables ≡ now → AreFirstEnds tables.texts ends (length tables.texts - 1) → text < length now.texts → begin ≡ get_or (0 ∷ ends) text 0 →
+    begin ≡ first_place now text
+begins_there tables now ends zero begin view h l is = is
+begins_there tables now ends (suc text) begin view h l is =
+    let more : text + 1 ≡ suc text = omega arith in
+    is ∙ h.at text (omega (arith, l, ap (λ (t : Tables). length t.texts) view)) ∙ ap (λ (n : ℕ). sum (map tokens_in (take n tables.texts))) more ∙ ap (λ (t : Tables). first_place t (suc text)) view
+
+pub ends_there : (tables now : Tables) (text begin : ℕ) (read : List ℕ × ℕ) → tables ≡ now → text < length now.texts → begin ≡ first_place now text → read ≡ get_or tables.texts text read →
+    begin + read.1 ≡ first_place now (text + 1)
+ends_there tables now text begin read view l is at = end_more now.texts text begin read is l (at ∙ ap (λ (t : Tables). get_or t.texts text read) view)
+
+pub within_all : (now : Tables) (text : ℕ) → first_place now text ≤ token_count now
+within_all now text = omega (arith, sum-map tokens_in (take text now.texts), sum-map tokens_in now.texts, sum_by-take-le tokens_in now.texts text)
+
+pub place_fits : (now : Tables) (text : ℕ) → AreTables now → first_place now text < 2 ^ 32
+place_fits now text are = omega (arith, within_all now text, tokens_fit are.registry now now.texts are.under refl)
+
+-- the last one ends where all tokens do
+pub all_end : (now : Tables) (count : ℕ) → count ≡ length now.texts → first_place now count ≡ token_count now
+all_end now count e = ap (λ (heads : List (List ℕ × ℕ)). sum (map tokens_in heads)) (take_all count now.texts (omega (arith, e)))

@@ -7,7 +7,7 @@ ghost use Rattle.mt_text_spec.specs.Texts.{ValidCorpus, text_tokens_limit};
 ghost use Rattle.mt_segment_spec.specs.Tables as spec;
 ghost use Rattle.mt_segment_spec.specs.Tables.{AreTablesOf, heads_of, tables_at};
 ghost use Rattle.mt_segment.specs.Building.{AreAllMapped, AreUsable, HasBase, IsMappedAt};
-ghost use Rattle.mt_segment.specs.Ends.{AreEndsOf};
+ghost use Rattle.mt_segment.specs.Ends.{AreInnerEnds};
 ghost use Rattle.mt_segment.specs.Mappers.{AreCalled, AreThere, calls_due, calls_of, image_by, named};
 
 use super::bases::all_base_tables;
@@ -41,9 +41,9 @@ impl Segment {
     {
         have_one_lexicon();
         let heads = heads(alloc, texts)?;
-        let ends = ends(alloc, heads.as_slice())?;
+        let ends = inner_ends(alloc, heads.as_slice())?;
         let attrs = registry.attrs().as_slice();
-        let tokens = ends[ends.len() - 1] as usize;
+        let tokens = count(texts);
         let mut tables = all_base_tables(rt, alloc, texts, attrs, tokens)?;
         map_all(alloc, attrs, tables.as_mut_slice(), mappers)?;
         let kinds = registry.kinds().len() as u16;
@@ -64,15 +64,25 @@ fn heads(alloc: Global, texts: &[Text]) -> Result<List<(Value, u32)>, NoMemory>
     Ok(heads)
 }
 
-/// The places where texts of these lengths end.
-pub(crate) fn ends(alloc: Global, texts: &[(Value, u32)]) -> Result<Vec<u32>, NoMemory>
-    requires { sum (map (λ head. head.1) texts.now) < 4294967296 }
-    ensures { IfOk result (λ ends. AreEndsOf texts.now ends.items) }
-{
-    let mut ends = Vec::with_capacity(alloc, texts.len())?;
-    let mut end = 0;
+/// How many tokens there are, which tells how the tables are made.
+fn count(texts: &[Text]) -> usize {
+    let mut count = 0usize;
     for text in texts {
-        end += text.1;
+        count = count.saturating_add(text.len());
+    }
+    count
+}
+
+/// The places where texts of these lengths end, but for the last one, which needs none. So one text alone takes no memory for them.
+pub(crate) fn inner_ends(alloc: Global, texts: &[(Value, u32)]) -> Result<Vec<u32>, NoMemory>
+    requires { sum (map (λ head. head.1) texts.now) < 4294967296 }
+    ensures { IfOk result (λ ends. AreInnerEnds texts.now ends.items) }
+{
+    let count = texts.len().saturating_sub(1);
+    let mut ends = Vec::with_capacity(alloc, count)?;
+    let mut end = 0;
+    for number in 0..count {
+        end += texts[number].1;
         ends.push(end)?;
     }
     Ok(ends)

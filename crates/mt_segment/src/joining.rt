@@ -6,7 +6,7 @@ ghost use Rattle.mt_segment_spec.specs.Tables.{AreTablesUnder, HaveParts};
 ghost use Rattle.mt_segment.specs.Joined.{AreJoined, HasNumbers, TakesNumbers};
 ghost use Rattle.mt_segment.specs.Numbers.{base_in, numbers_in};
 
-use super::building::ends;
+use super::building::inner_ends;
 use super::lists::Lists;
 use super::queue::Queue;
 use super::segment::Segment;
@@ -33,7 +33,7 @@ impl Segment {
         requires { (t : spec.Tables) × AreTablesUnder registry.now t × HaveParts t texts lexicons columns tables postings structs }
         ensures { IfOk result (λ segment. (t : spec.Tables) → AreTablesUnder registry.now t → HaveParts t texts lexicons columns tables postings structs → segment ≡ t) }
     {
-        let ends = ends(alloc, texts.as_slice())?;
+        let ends = inner_ends(alloc, texts.as_slice())?;
         let attrs = join(
             alloc,
             registry.attrs().as_slice(),

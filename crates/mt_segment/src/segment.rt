@@ -1,9 +1,9 @@
 //! The segment.
 
-ghost use Rattle.std.specs.Prelude.{◌≡◌, ℕ, ◌+◌, ◌*◌, ◌<◌, ◌≤◌, [], length, slice_index_or, None, IsSome};
+ghost use Rattle.std.specs.Prelude.{◌≡◌, ℕ, ◌+◌, ◌*◌, ◌<◌, ◌≤◌, [], ◌∷◌, length, slice_index, slice_index_or, None, IsSome};
 ghost use Rattle.std.specs.List.{flat_map};
 ghost use Rattle.mt_segment_spec.specs.Tables as spec;
-ghost use Rattle.mt_segment.specs.Ends.{AreEndsOf};
+ghost use Rattle.mt_segment.specs.Ends.{AreInnerEnds};
 ghost use Rattle.mt_segment.specs.Lists.{groups};
 ghost use Rattle.mt_segment_spec.specs.Tables.{AreTables, first_place, number_at, tables_at, token_count};
 
@@ -30,18 +30,18 @@ impl Model for Segment {
     ghost use Rattle.std.specs.Prelude.{◌≡◌, ◌*◌, length};
     ghost use Rattle.mt_segment_spec.specs.Tables as spec;
     ghost use Rattle.mt_segment_spec.specs.Tables.{AreTables};
-    ghost use Rattle.mt_segment.specs.Ends.{AreEndsOf};
+    ghost use Rattle.mt_segment.specs.Ends.{AreInnerEnds};
     ghost use Rattle.mt_segment.specs.Lists.{groups};
 
     ghost Value = { spec.Tables };
 
     ghost view = { λ s. record { texts = s.texts; attrs = s.attrs; structs = groups (length s.texts) s.kinds s.structs } };
 
-    ghost invariant = { λ s. AreTables (record { texts = s.texts; attrs = s.attrs; structs = groups (length s.texts) s.kinds s.structs }) × AreEndsOf s.texts s.ends.items × (length s.structs ≡ s.kinds * length s.texts) };
+    ghost invariant = { λ s. AreTables (record { texts = s.texts; attrs = s.attrs; structs = groups (length s.texts) s.kinds s.structs }) × AreInnerEnds s.texts s.ends.items × (length s.structs ≡ s.kinds * length s.texts) };
 }
 
 impl Segment {
-    /// The segment with these tables, where its texts end at these places.
+    /// The segment with these tables, where its texts but the last one end at these places.
     pub(crate) fn from_parts(
         texts: List<(Value, u32)>,
         ends: Vec<u32>,
@@ -50,7 +50,7 @@ impl Segment {
         structs: Lists<StructSpan>,
     ) -> Self
         requires tables { AreTables (record { texts = texts; attrs = attrs; structs = groups (length texts) kinds structs }) }
-        requires ends { AreEndsOf texts ends.items }
+        requires ends { AreInnerEnds texts ends.items }
         requires structs { length structs ≡ kinds * length texts }
         ensures { result ≡ record { texts = texts; attrs = attrs; structs = groups (length texts) kinds structs } }
     {
@@ -76,7 +76,8 @@ impl Segment {
         ensures count { result ≡ token_count self.now }
         ensures valid { AreTables self.now }
     {
-        self.ends[self.ends.len() - 1]
+        let last = self.texts() - 1;
+        self.text_bounds(last).1
     }
 
     /// The name of a text, by its number in the segment.
@@ -95,8 +96,8 @@ impl Segment {
         ensures order { result.0 ≤ result.1 }
         ensures within { result.1 ≤ token_count self.now }
     {
-        let end = self.ends[i as usize];
-        (end - self.texts.get(i as usize).1, end)
+        let begin = begin_of(self.ends.as_slice(), i as usize);
+        (begin, begin + self.texts.get(i as usize).1)
     }
 
     /// The number of an attribute's value at a place. It is one step.
@@ -199,4 +200,12 @@ impl Segment {
         self.structs
             .get(kind as usize * self.texts.len() + text as usize)
     }
+}
+
+/// Where a text begins: where the one before it ends.
+fn begin_of(ends: &[u32], i: usize) -> u32
+    requires { i ≤ length ends.now }
+    ensures { result ≡ slice_index (0 ∷ ends.now) i }
+{
+    if i == 0 { 0 } else { ends[i - 1] }
 }

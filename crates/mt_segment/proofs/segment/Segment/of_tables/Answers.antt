@@ -13,8 +13,8 @@ joined c t under parts =
     joined_at _ _ _ _ _ _ _ _ _ _ _ (joined_from _ _ _ _ _ _ _ _ under parts) (c.as_slice-2.ensures ∙ c.attrs.ensures) (c.new.ensures ∙ c.into_vec.ensures) (c.new-2.ensures ∙ c.into_vec-2.ensures) (c.new-3.ensures ∙ c.into_vec-3.ensures)
     (c.new-4.ensures ∙ c.into_vec-4.ensures)
 
-pub ends-requires : goal.ends-requires
-ends-requires c =
+pub inner_ends-requires : goal.inner_ends-requires
+inner_ends-requires c =
     let (t, under, parts) = c.requires in
     omega (arith, tokens_fit c.args.registry.now t c.as_slice.result.now under (c.as_slice.ensures ∙ parts.texts_are))
 
