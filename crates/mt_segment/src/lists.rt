@@ -63,14 +63,6 @@ impl<T: Drop> Lists<T> {
         between(self.items.as_slice(), self.begins.as_slice(), from, to)
     }
 
-    /// Takes all lists away, and keeps the memory for others.
-    pub(crate) fn clear(&mut self)
-        ensures { self.new ≡ [] }
-    {
-        self.items.clear();
-        self.begins.clear();
-    }
-
     /// Begins a list behind the others. Without memory nothing changes.
     pub fn begin(&mut self) -> Result<(), NoMemory>
         ensures ok { OnOk result (self.new ≡ self.old ++ [] ∷ []) }
