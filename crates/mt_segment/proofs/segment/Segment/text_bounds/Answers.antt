@@ -1,5 +1,5 @@
 use Rattle.std.proofs.Common.{◌≡◌, ◌+◌, ◌∷◌, ℕ, List, length, get_or, ap, ◌∙◌, subst, arith}
-use Rattle.mt_segment_spec.specs.Tables.{AreTables, first_place, token_count}
+use Rattle.mt_segment_spec.specs.Tables.{AreTables, first_place}
 use Rattle.mt_segment.specs.Lists.{groups}
 use Rattle.mt_segment.proofs.Lookups.{begins_there, ends_there, place_fits, within_all}
 use Rattle.mt_segment.proofs.segment.Segment.text_bounds.Goals as goal
