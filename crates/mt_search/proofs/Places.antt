@@ -14,6 +14,7 @@ use Rattle.std.proofs.lemmas.List.Sums.{fails_before_first, passes_at_first}
 use Rattle.std.proofs.lemmas.Option.{get_or_from_slice_get, slice_get_within}
 use Rattle.mt_text_spec.specs.Texts.{Row, Span}
 use Rattle.mt_text_spec.specs.Orders.{row_cmp}
+use Rattle.mt_match_spec.specs.Labels.{no_labels}
 use Rattle.mt_corpus_laws.specs.Laws.{row_to}
 use Rattle.mt_corpus_laws.specs.Joined.{placed}
 
@@ -142,6 +143,32 @@ one_placed before live rows old new i row other l is e n =
     ∙ append_assoc old (map (placed before live) (take i rows)) (placed before live row ∷ [])
     ∙ ap (λ (rs : List Row). old ++ rs) (sym (map-append (placed before live) (take i rows) (row ∷ [])))
     ∙ ap (λ (rs : List Row). old ++ map (placed before live) rs) (sym (take_more rows i row l ∙ ap (λ (r : Row). take i rows ++ r ∷ []) is))
+
+-- ---- rows with no label, by their spans
+
+pub record RowOf (rows : List Row) (i : ℕ) (span : Span) : Type 0 where
+  pub row : Row
+  pub at : slice_get rows i ≡ Some row
+  pub is : get_or rows i row ≡ row
+  pub spans : span ≡ row.span
+
+row_at : (rows : List Row) (i : ℕ) (span : Span) → slice_get (map (λ (r : Row). r.span) rows) i ≡ Some span → RowOf rows i span
+row_at [] i span e = cc
+row_at (r ∷ rows) zero span e = let same : span ≡ r.span = cc in record { row = r; at = refl; is = refl; spans = same }
+row_at (r ∷ rows) (suc i) span e = let x = row_at rows i span e in record { row = x.row; at = x.at; is = x.is; spans = x.spans }
+
+pub row_of : (rows : List Row) (spans : List Span) (i : ℕ) (span : Span) → spans ≡ map (λ (r : Row). r.span) rows → slice_get spans i ≡ Some span → RowOf rows i span
+row_of rows spans i span are e = row_at rows i span (subst (λ (xs : List Span). slice_get xs i ≡ Some span) are e)
+
+pub no_label : (rows : List Row) (i : ℕ) (span : Span) → All (λ (r : Row). r.labels ≡ no_labels) rows → (x : RowOf rows i span) → x.row.labels ≡ no_labels
+no_label rows i span none x = sym (ap (λ (r : Row). r.labels) x.is) ∙ none i x.row (slice_get_within rows i x.row x.at)
+
+pub moved : (before : ℕ) (live : List ℕ) (row : Row) (span made : Span) (place begin end : ℕ) → span ≡ row.span → place ≡ place_of live row.span.text → row.labels ≡ no_labels → begin ≡ span.begin → end ≡ span.end →
+    made ≡ record { text = before + place; begin = begin; end = end } → record { span = made; labels = no_labels } ≡ placed before live row
+moved before live row span made place begin end s p none b e m =
+    let to : made ≡ record { text = before + place_of live row.span.text; begin = row.span.begin; end = row.span.end } =
+    m ∙ (λ i. record { text = before + p i; begin = (b ∙ ap (λ (x : Span). x.begin) s) i; end = (e ∙ ap (λ (x : Span). x.end) s) i }) in
+    λ i. record { span = to i; labels = sym none i }
 
 -- ---- where the live texts are 0, 1, 2 and so on, each row stays as it is
 

@@ -2,6 +2,7 @@
 
 ghost use Rattle.std.specs.Prelude.{◌≡◌, ℕ, ◌+◌, ◌<◌, ◌≤◌, ◌++◌, true, length, map, nat_eq, slice_index, OnOk};
 ghost use Rattle.std.specs.List.{All, AllPairs, Contains, position_or_len};
+ghost use Rattle.mt_match_spec.specs.Labels.{no_labels};
 ghost use Rattle.mt_corpus_laws.specs.Joined.{placed};
 
 use mt_base::{NoMemory, Row, Span};
@@ -44,6 +45,25 @@ fn push_placed(rows: &mut Rows, more: &RowList, live: &[u32], before: u32) -> Re
     Ok(())
 }
 
+/// Adds rows of a segment of which none has a label, by their spans. For the rest see `push_placed`.
+fn push_spans(rows: &mut Rows, more: &RowList, live: &[u32], before: u32) -> Result<(), NoMemory>
+    requires ascending { AllPairs (λ number later. number < later) live.now }
+    requires listed { All (λ row. Contains live.now row.span.text) more.now }
+    requires room { before + length live.now ≤ 4294967295 }
+    requires unlabelled { All (λ row. row.labels ≡ no_labels) more.now }
+    ensures { OnOk result (rows.new ≡ rows.old ++ map (placed before live.now) more.now) }
+{
+    more.len();
+    let spans = more.as_spans();
+    let mut place = 0;
+    for i in 0..spans.len() {
+        let span = spans[i];
+        place = place_among(live, place, span.text());
+        rows.push_unlabelled(Span::new(before + place as u32, span.begin(), span.end()))?;
+    }
+    Ok(())
+}
+
 /// Whether these numbers are 0, 1, 2 and so on.
 fn are_from_zero(numbers: &[u32]) -> bool
     ensures { result ≡ true → (k : ℕ) → k < length numbers.now → slice_index numbers.now k ≡ k }
@@ -71,6 +91,9 @@ pub(crate) fn add_placed(
     if before == 0 && rows.is_empty() && are_from_zero(live) {
         *rows = more.into_rows();
         return Ok(());
+    }
+    if more.are_unlabelled() {
+        return push_spans(rows, &more, live, before);
     }
     push_placed(rows, &more, live, before)
 }
