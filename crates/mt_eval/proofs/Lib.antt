@@ -20,3 +20,4 @@ pub mod Spanned
 pub mod EachToken
 pub mod OverGaps
 pub mod GapRows
+pub mod Bare

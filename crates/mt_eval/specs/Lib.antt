@@ -8,3 +8,4 @@ pub mod Spans
 pub mod QuerySpans
 pub mod Every
 pub mod Gapped
+pub mod Unlabelled

@@ -26,7 +26,7 @@ use super::gapped::rows_by_gap;
 use super::rarest::{looked_by, positions};
 use super::scan::scan_text;
 use super::scratch::Scratch;
-use super::sequence::{Sequence, add_rows, is_sequence};
+use super::sequence::{Sequence, add_rows, is_sequence, sets_none};
 use super::spans::{is_tag, rows_by_spans};
 use super::walk::Walk;
 use mt_automaton::{Automaton, Pool, labels_stand};
@@ -296,11 +296,13 @@ fn walked<L: Ledger>(
 {
     have_rows_in();
     no_more_than_all();
+    let bare = sets_none(sequence.expr);
     for text in asked.texts {
         let left = room - out.len() as u32;
         add_rows(
             &mut walk,
             sequence,
+            bare,
             asked.segment,
             *text,
             left,

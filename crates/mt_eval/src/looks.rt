@@ -93,3 +93,27 @@ pub(crate) fn say_from<L: Ledger>(
     }
     true
 }
+
+/// The same. Where there are no such tests, nothing is called for them.
+#[inline]
+pub(crate) fn say_between<L: Ledger>(
+    tests: &[Resolved],
+    from: usize,
+    to: usize,
+    segment: &Segment,
+    place: u32,
+    steps: &mut Steps<L>,
+) -> bool
+    requires attrs { All (HasAttrs segment.now) tests.now }
+    requires order { from ≤ to }
+    requires within { to ≤ length tests.now }
+    requires inside { place + to ≤ token_count segment.now }
+    ensures say { Decides result (SayFrom segment.now tests.now from to place) }
+    ensures rises { steps.old ≤ steps.new }
+    ensures ones { All IsOne tests.now → steps.new ≤ steps.old + (to - from) }
+{
+    if from == to {
+        return true;
+    }
+    say_from(tests, from, to, segment, place, steps)
+}

@@ -1,6 +1,6 @@
 //! The rows of a sequence of tests of tokens, which are looked for at the positions of one of its values.
 
-ghost use Rattle.std.specs.Prelude.{◌≡◌, ℕ, List as Items, ◌+◌, ◌-◌, ◌<◌, ◌≤◌, length, OnOk, IsErrOf, IfSome, IfNone};
+ghost use Rattle.std.specs.Prelude.{◌≡◌, ℕ, List as Items, [], ◌∷◌, ◌++◌, ◌+◌, ◌-◌, ◌<◌, ◌≤◌, length, OnOk, IsErrOf, IsTrue, IfSome, IfNone};
 ghost use Rattle.std.specs.Bool.{Decides};
 ghost use Rattle.std.specs.List.{All};
 ghost use Rattle.mt_query_spec.specs.Contents.{token_tests};
@@ -13,11 +13,12 @@ ghost use Rattle.mt_automaton.specs.RowsFrom.{IsRowOfText, HasLonger};
 ghost use Rattle.mt_rows.specs.Appends.{Appends};
 ghost use Rattle.mt_prepare.specs.TestRows.{HasAttrs, SaysAt};
 ghost use Rattle.mt_eval.specs.Sequences.{AreTestsOf, BeginsAt, IsOne, IsRowAt, IsSequence, labels_from, positions_of, row_from, test_at};
+ghost use Rattle.mt_eval.specs.Unlabelled.{SetsNone};
 ghost use Rattle.mt_eval.specs.Walks.{IsLeft, due, left_of};
 
-use super::looks::say_from;
+use super::looks::say_between;
 use super::walk::{Walk, before, pass};
-use mt_base::{Row, Span, Steps};
+use mt_base::{NoMemory, Row, Span, Steps};
 use mt_cql::Expr;
 use mt_eval_laws::places_are_listed;
 use mt_prepare::Resolved;
@@ -36,6 +37,26 @@ pub(crate) fn is_sequence(expr: &Expr) -> bool
         Expr::End { kind: _ } => false,
         Expr::Whole { kind: _, test: _ } => false,
         Expr::Seq(left, right) => is_sequence(left) && is_sequence(right),
+        Expr::Choice(_, _) => false,
+        Expr::Repeat {
+            inner: _,
+            least: _,
+            most: _,
+        } => false,
+    }
+}
+
+/// Whether a sequence sets no label, wherever it begins.
+#[tactic(auto, using(crate::proofs::Bare::one_none, crate::proofs::Bare::both_none))]
+pub(crate) fn sets_none(expr: &Expr) -> bool
+    ensures { IsTrue result → SetsNone (shape expr.now) }
+{
+    match expr {
+        Expr::Token { label, test: _ } => *label == 0,
+        Expr::Begin { kind: _, test: _ } => false,
+        Expr::End { kind: _ } => false,
+        Expr::Whole { kind: _, test: _ } => false,
+        Expr::Seq(left, right) => sets_none(left) && sets_none(right),
         Expr::Choice(_, _) => false,
         Expr::Repeat {
             inner: _,
@@ -105,6 +126,27 @@ fn row_at(sequence: &Sequence<'_>, text: u32, begin: u32) -> Row
     Row::new(Span::new(text, begin, end), labels)
 }
 
+/// Adds the row of a sequence that begins at a place of a text. A sequence that is bare sets no label.
+fn push_row(
+    sequence: &Sequence<'_>,
+    bare: bool,
+    text: u32,
+    begin: u32,
+    out: &mut Rows,
+) -> Result<(), NoMemory>
+    requires is { IsSequence (shape sequence.now.expr.now) }
+    requires few { begin + length (token_tests (shape sequence.now.expr.now)) < 4294967296 }
+    requires long { length sequence.now.tests.now ≡ length (token_tests (shape sequence.now.expr.now)) }
+    requires bare { IsTrue bare → SetsNone (shape sequence.now.expr.now) }
+    ensures { OnOk result (out.new ≡ out.old ++ row_from (shape sequence.now.expr.now) text begin ∷ []) }
+{
+    if bare {
+        let end = begin + sequence.tests.len() as u32;
+        return out.push_unlabelled(Span::new(text, begin, end));
+    }
+    out.push(row_at(sequence, text, begin))
+}
+
 /// Where in a text the sequence begins whose test it is looked for by is met at a place of the segment. The text's tokens stand from `first` on, before `end`.
 fn begin_at<L: Ledger>(
     sequence: &Sequence<'_>,
@@ -132,10 +174,10 @@ fn begin_at<L: Ledger>(
     if end < begin || u64::from(end - begin) < len {
         return None;
     }
-    if !say_from(sequence.tests, 0, sequence.by, segment, begin, steps) {
+    if !say_between(sequence.tests, 0, sequence.by, segment, begin, steps) {
         return None;
     }
-    if !say_from(
+    if !say_between(
         sequence.tests,
         sequence.by + 1,
         sequence.tests.len(),
@@ -146,6 +188,45 @@ fn begin_at<L: Ledger>(
         return None;
     }
     Some(begin - first)
+}
+
+/// Adds the row of a text, whose tokens stand in the segment from `first` on, before `end`: where there is one, that whose token at a place of the segment meets the test that the sequence is
+/// looked for by. A sequence that is bare sets no label.
+fn add_between<L: Ledger>(
+    sequence: &Sequence<'_>,
+    bare: bool,
+    segment: &Segment,
+    text: u32,
+    first: u32,
+    end: u32,
+    place: u32,
+    room: u32,
+    steps: &mut Steps<L>,
+    out: &mut Rows,
+) -> Result<(), EvalError>
+    requires text { text < length segment.now.texts }
+    requires first { first ≡ first_place segment.now text }
+    requires end { end ≡ first_place segment.now (text + 1) }
+    requires within { end ≤ token_count segment.now }
+    requires tests { AreTestsOf segment.now (shape sequence.now.expr.now) sequence.now.tests.now }
+    requires by { sequence.now.by < length sequence.now.tests.now }
+    requires bare { IsTrue bare → SetsNone (shape sequence.now.expr.now) }
+    requires meets { SaysAt segment.now (test_at sequence.now.tests.now sequence.now.by) place }
+    ensures ok { OnOk result (Appends (IsRowAt segment.now (shape sequence.now.expr.now) text sequence.now.by place) room out.old out.new) }
+    ensures more { IsErrOf result EvalError.TooManyRows → (room ≡ 0) × (row : spec.Row) × IsRowAt segment.now (shape sequence.now.expr.now) text sequence.now.by place row }
+    ensures rises { steps.old ≤ steps.new }
+    ensures ones { All IsOne sequence.now.tests.now → steps.new + 1 ≤ steps.old + length sequence.now.tests.now }
+{
+    match begin_at(sequence, segment, first, end, place, steps) {
+        None => Ok(()),
+        Some(begin) => {
+            if room == 0 {
+                return Err(EvalError::TooManyRows);
+            }
+            push_row(sequence, bare, text, begin, out)?;
+            Ok(())
+        }
+    }
 }
 
 /// Adds the row of a text, where there is one, whose token at a place of the segment meets the test that the sequence is looked for by.
@@ -168,16 +249,10 @@ pub(crate) fn add_at<L: Ledger>(
     ensures ones { All IsOne sequence.now.tests.now → steps.new + 1 ≤ steps.old + length sequence.now.tests.now }
 {
     let (first, end) = segment.text_bounds(text);
-    match begin_at(sequence, segment, first, end, place, steps) {
-        None => Ok(()),
-        Some(begin) => {
-            if room == 0 {
-                return Err(EvalError::TooManyRows);
-            }
-            out.push(row_at(sequence, text, begin))?;
-            Ok(())
-        }
-    }
+    let bare = sets_none(sequence.expr);
+    add_between(
+        sequence, bare, segment, text, first, end, place, room, steps, out,
+    )
 }
 
 /// Passes the positions before a place.
@@ -191,10 +266,11 @@ fn skip_to<L: Ledger>(walk: &mut Walk<'_>, least: u32, steps: &mut Steps<L>)
     }
 }
 
-/// Adds the rows of a sequence in a text, by the positions that are left. Those of the text are passed.
+/// Adds the rows of a sequence in a text, by the positions that are left. Those of the text are passed. A sequence that is bare sets no label.
 pub(crate) fn add_rows<L: Ledger>(
     walk: &mut Walk<'_>,
     sequence: &Sequence<'_>,
+    bare: bool,
     segment: &Segment,
     text: u32,
     room: u32,
@@ -204,6 +280,7 @@ pub(crate) fn add_rows<L: Ledger>(
     requires text { text < length segment.now.texts }
     requires tests { AreTestsOf segment.now (shape sequence.now.expr.now) sequence.now.tests.now }
     requires by { sequence.now.by < length sequence.now.tests.now }
+    requires bare { IsTrue bare → SetsNone (shape sequence.now.expr.now) }
     requires left { (bound : ℕ) × (bound ≤ first_place segment.now text) × IsLeft (positions_of segment.now (test_at sequence.now.tests.now sequence.now.by)) bound (left_of walk.old.next walk.old.rest) }
     requires one { IsOne (test_at sequence.now.tests.now sequence.now.by) }
     ensures left { OnOk result (IsLeft (positions_of segment.now (test_at sequence.now.tests.now sequence.now.by)) (first_place segment.now (text + 1)) (left_of walk.new.next walk.new.rest)) }
@@ -221,7 +298,9 @@ pub(crate) fn add_rows<L: Ledger>(
     let before_all = out.len();
     while let Some(place) = before(walk, end) {
         let left = room - (out.len() - before_all) as u32;
-        add_at(sequence, segment, text, place, left, steps, out)?;
+        add_between(
+            sequence, bare, segment, text, first, end, place, left, steps, out,
+        )?;
         pass(walk, steps);
     }
     Ok(())

@@ -32,8 +32,8 @@ loop-place-init g c =
       due_is = λ ones. omega arith;
     }
 
-pub add_at-requires-clause-meets : goal.add_at-requires-clause-meets
-add_at-requires-clause-meets g c =
+pub add_between-requires-clause-meets : goal.add_between-requires-clause-meets
+add_between-requires-clause-meets g c =
     let T = c.args.segment.now in
     let tests = c.args.sequence.now.tests.now in
     let by = c.args.sequence.now.by in
@@ -45,8 +45,8 @@ add_at-requires-clause-meets g c =
     let left : IsLeft (positions_of T (test_at tests by)) h.bound (place ∷ rest) = subst (IsLeft (positions_of T (test_at tests by)) h.bound) (some_left c.loop-place.walk.next place rest c.in-Some.ensures.some.0) h.left in
     (its.on place (left.only place (first_in place rest))).1
 
-pub returns-in_err-add_at-clause-more : goal.returns-in_err-add_at-clause-more
-returns-in_err-add_at-clause-more g c =
+pub returns-in_err-add_between-clause-more : goal.returns-in_err-add_between-clause-more
+returns-in_err-add_between-clause-more g c =
     let T = c.args.segment.now in
     let E = shape c.args.sequence.now.expr.now in
     let tests = c.args.sequence.now.tests.now in
@@ -57,8 +57,8 @@ returns-in_err-add_at-clause-more g c =
     let P = positions_of T (test_at tests by) in
     let left : IsLeft P h.bound (place ∷ rest) = subst (IsLeft P h.bound) (some_left c.loop-place.walk.next place rest c.in-Some.ensures.some.0) h.left in
     let long : length c.loop-place.out ≡ length c.args.out.now + length h.rows = ap length h.appended ∙ length-append c.args.out.now h.rows in
-    let k : IsErrOf {E = EvalError} (Err c.in_err-add_at.field-0.0) TooManyRows → HasLonger (IsRowOfText (told T c.args.text) E c.args.text) c.args.room =
-    λ e. let m = c.in_err-add_at.ensures.more e in
+    let k : IsErrOf {E = EvalError} (Err c.in_err-add_between.field-0.0) TooManyRows → HasLonger (IsRowOfText (told T c.args.text) E c.args.text) c.args.room =
+    λ e. let m = c.in_err-add_between.ensures.more e in
     longer T E tests c.args.text c.requires.tests c.requires.text by c.requires.by h.bound place c.args.room h.rows m.1 (left.low place (first_in place rest)) h.are m.2
     (omega (arith, m.0, long, c.len.ensures, c.len-before_all.ensures)) in
     search (rules, k)
@@ -77,7 +77,7 @@ loop-place-preserved g c =
     let here = c.in-Some.ensures.some.0 in
     let P = positions_of T (test_at tests by) in
     let left : IsLeft P h.bound (place ∷ rest) = subst (IsLeft P h.bound) (some_left c.loop-place.walk.next place rest here) h.left in
-    let r = c.in_ok-add_at.ensures.ok in
+    let r = c.in_ok-add_between.ensures.ok in
     let long : length c.loop-place.out ≡ length c.args.out.now + length h.rows = ap length h.appended ∙ length-append c.args.out.now h.rows in
     let both = length-append h.rows r.rows in
     record {
@@ -89,8 +89,8 @@ loop-place-preserved g c =
           (λ p low early inside says. none_between P h.bound place rest p left low early (its.back p inside says)) h.are r.are;
       appended = r.appended ∙ ap (λ (rows : List _). rows ++ r.rows) h.appended ∙ append_assoc c.args.out.now h.rows r.rows;
       within = omega (arith, r.within, h.within, both, long, c.len.ensures, c.len-before_all.ensures);
-      rises = omega (arith, h.rises, c.in_ok-add_at.ensures.rises, c.pass.ensures.rises);
-      due_is = λ ones. omega (arith, h.due_is ones, c.in_ok-add_at.ensures.ones ones, c.pass.ensures.due (length tests - 1), due_some (length tests - 1) c.loop-place.walk.next place rest here, c.requires.by);
+      rises = omega (arith, h.rises, c.in_ok-add_between.ensures.rises, c.pass.ensures.rises);
+      due_is = λ ones. omega (arith, h.due_is ones, c.in_ok-add_between.ensures.ones ones, c.pass.ensures.due (length tests - 1), due_some (length tests - 1) c.loop-place.walk.next place rest here, c.requires.by);
     }
 
 pub returns-clause-left : goal.returns-clause-left
