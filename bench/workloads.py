@@ -1,6 +1,7 @@
 """Inputs for the measurements, each made from a seed, so that each run measures the same bytes."""
 import itertools
 import random
+import re
 
 VOCABULARY = 50_000
 SENTENCE = 20
@@ -74,6 +75,15 @@ def many_texts(path, texts, tokens, begin="", front=()):
             for _ in range(tokens):
                 lemma = (next(draw) % 1000) * (next(draw) % 1000) // 1000
                 out.write(f"l{lemma}\t{'NJVD'[lemma % 4]}\tl{lemma}\n")
+
+
+def refused_texts(path, texts, tokens):
+    """Writes the script of `many_texts` with a last line in each text that is no UTF-8, so that each is read and none is held."""
+    many_texts(path, texts, tokens)
+    with open(path, "rb") as held:
+        script = held.read()
+    with open(path, "wb") as out:
+        out.write(re.sub(rb"\n(?=text |\Z)", b"\xff\n", script))
 
 
 def asked(path, begin, questions):
