@@ -28,10 +28,13 @@ fn is_closed(bytes: &[u8]) -> bool
     }
 }
 
-/// Whether the line begins so and ends with `>` behind that.
+/// Whether the line begins so and ends with `>` behind that. Few lines end so, and that is seen at once.
 fn encloses(start: &[u8], line: &[u8]) -> bool
     ensures { IsTrue result ↔ Encloses start.now line.now }
 {
+    if !is_closed(line) {
+        return false;
+    }
     match line.strip_prefix(start) {
         Some(rest) => is_closed(rest),
         None => false,

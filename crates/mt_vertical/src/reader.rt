@@ -1,6 +1,6 @@
 //! What is kept while a vertical is read, line by line.
 
-ghost use Rattle.std.specs.Prelude.{◌≡◌, ℕ, ◌<◌, ◌≤◌, [], List as Items, length, replicate, slice_get, option_map, None, Some, IsUtf8, IfOk, OnOk};
+ghost use Rattle.std.specs.Prelude.{◌≡◌, ℕ, ◌<◌, ◌≤◌, ◌++◌, [], List as Items, length, replicate, slice_get, option_map, None, Some, IsUtf8, IfOk, OnOk};
 ghost use Rattle.mt_text_spec.specs.Registries as registries;
 ghost use Rattle.mt_text_spec.specs.Registries.{ValidRegistry, base_count, kind_names};
 ghost use Rattle.mt_text_spec.specs.Texts.{text_tokens_limit};
@@ -21,6 +21,9 @@ use mt_base::{Attr, List, NoMemory, Registry, Strings, StructSpan, Text, Tokens,
 use std::alloc::Global;
 use std::marker::Model;
 use std::str;
+
+/// A text of at most so many tokens keeps the room that its values do not take: it is small, and to give it back costs as much as reading some lines.
+const FEW_TOKENS: usize = 16;
 
 /// The tokens so far, and the instances of each kind. The row has the columns of one line, in memory that each line takes anew.
 #[derive(Debug, Drop)]
@@ -205,9 +208,28 @@ impl Reader {
         let place = self.tokens.len() as u32;
         let structs = gather(alloc, self.kinds, place)?;
         let mut tokens = self.tokens;
-        tokens.shrink_to_fit();
+        if tokens.len() > FEW_TOKENS {
+            tokens.shrink_to_fit();
+        }
         Ok(Text::new(name, tokens, List::from_vec(structs)))
     }
+}
+
+/// Instances, and others behind them. Where there are none of the one or of the other, nothing is moved.
+fn put_behind(
+    mut all: Vec<StructSpan>,
+    mut more: Vec<StructSpan>,
+) -> Result<Vec<StructSpan>, NoMemory>
+    ensures { IfOk result (λ both. both.items ≡ all.items ++ more.items) }
+{
+    if more.is_empty() {
+        return Ok(all);
+    }
+    if all.is_empty() {
+        return Ok(more);
+    }
+    all.append(&mut more)?;
+    Ok(all)
 }
 
 /// The instances of all kinds, kind after kind.
@@ -218,8 +240,8 @@ fn gather(alloc: Global, kinds: Vec<Instances>, place: u32) -> Result<Vec<Struct
     let mut all = Vec::new(alloc);
     let mut kind = 0;
     for instances in kinds {
-        let mut ended = instances.finish(kind, place)?;
-        all.append(&mut ended)?;
+        let ended = instances.finish(kind, place)?;
+        all = put_behind(all, ended)?;
         kind += 1;
     }
     Ok(all)

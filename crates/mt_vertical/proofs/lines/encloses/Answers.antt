@@ -4,8 +4,8 @@ use Rattle.mt_vertical.proofs.LineKinds.{encloses_gives, encloses_back, begins_e
 
 pub returns-in-Some : goal.returns-in-Some
 returns-in-Some c = (
-  λ t. encloses_gives _ _ _ c.in-Some.ensures.cases.0 c.in-Some.ensures.cases.1 (c.is_closed.ensures.0 t),
-  λ e. c.is_closed.ensures.1 (encloses_back _ _ _ c.in-Some.ensures.cases.1 e),
+  λ t. encloses_gives _ _ _ c.in-Some.ensures.cases.0 c.in-Some.ensures.cases.1 (c.is_closed-in-Some.ensures.0 t),
+  λ e. c.is_closed-in-Some.ensures.1 (encloses_back _ _ _ c.in-Some.ensures.cases.1 e),
 )
 
 pub returns-in-None : goal.returns-in-None
