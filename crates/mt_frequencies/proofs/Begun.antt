@@ -13,8 +13,12 @@ use Rattle.mt_report_spec.specs.Near.{near_begin, places_at, values_by}
 use Rattle.mt_reports.specs.Places.{Stands}
 use Rattle.mt_reports.specs.Told.{told_tokens, told_value}
 use Rattle.mt_reports.proofs.Spans.{IsIn, IsThere, is_in}
+use Rattle.mt_frequencies.specs.declared.distances.Near as looked
 use Rattle.mt_frequencies.specs.Amounts.{HasAmounts, values_told}
+use Rattle.mt_frequencies.specs.Distances.{AreDistances, near_of}
+use Rattle.mt_frequencies.specs.Seen.{AreInside, around_text, places_near, values_in}
 use Rattle.mt_frequencies.proofs.Nearby.{near_is}
+use Rattle.mt_frequencies.proofs.Runs.{values_are}
 
 -- one span more lies in the text of the first
 pub same_text : (spans : List Span) (from to : ℕ) (one : Span) → from < length spans → one ≡ get_or spans to one → to < length spans → one.text ≡ (get_or spans from one).text →
@@ -79,6 +83,21 @@ module _ (stand_for : NumbersStandForValues) (tokens : TokensStandInTexts) (segm
       let alike = same k span m n in
       sym (near_is stand_for tokens segments live images registry groups stand own segment before tables numbers (get_or numbers (same_text - before) 0) (there own (as_one k span alike)) tables_are (in_text k span (omega (arith, n, within)) alike) (near_begin attr distance) l)
       ∙ moved (told_value tables attr) (first_place tables (get_or numbers (same_text - before) 0)) (places_at (told_tokens tables (get_or numbers (same_text - before) 0)) own.begin own.begin (distance ∷ []))
+
+  pub inside_in : (end : ℕ) → end ≤ length spans → ((k : ℕ) (span : Span) → to ≤ k → k < end → (get_or spans k span).text ≡ (get_or spans to span).text) → AreInside (told_tokens tables (get_or numbers (same_text - before) 0)) to end spans
+  inside_in end within same = record {
+    some = λ k span m n. (in_text k span (omega (arith, n, within)) (same k span m n)).some;
+    inside = λ k span m n. (in_text k span (omega (arith, n, within)) (same k span m n)).inside;
+  }
+
+  pub near_windows : (images : Images) (registry : Registry) (groups : List Group) → StandFor images registry groups segments live → (near : looked.Near) → AreDistances near.distances → near.attr < length tables.attrs → (end : ℕ) → end ≤ length spans →
+      ((k : ℕ) (span : Span) → to ≤ k → k < end → (get_or spans k span).text ≡ (get_or spans to span).text) →
+      (k : ℕ) (span : Span) → to ≤ k → k < end → values_by images registry (corpus_of groups) (near_of near) (get_or spans k span) ≡ values_in tables near.attr (places_near (around_text tables (get_or numbers (same_text - before) 0) near.distances) (get_or spans k span))
+  near_windows images registry groups stand near distances l end within same k span m n =
+      let own : Span = get_or spans k span in
+      let alike = same k span m n in
+      sym (near_is stand_for tokens segments live images registry groups stand own segment before tables numbers (get_or numbers (same_text - before) 0) (there own (as_one k span alike)) tables_are (in_text k span (omega (arith, n, within)) alike) (near_of near) l)
+      ∙ values_are tables near.attr (get_or numbers (same_text - before) 0) near.distances own distances
 
 -- what was counted, by the lexicon and the counts at hand
 pub amounts_as : (near : Span → List (List ℕ)) (spans : List Span) (from to segment attr : ℕ) (segments : List Tables) (tables : Tables) (lexicon : List (List ℕ)) (counts slice : List ℕ) → tables ≡ get_or segments segment tables → lexicon ≡ (tables_at tables.attrs attr).lexicon → slice ≡ counts →

@@ -1,17 +1,14 @@
 -- What is counted for values.
-use Rattle.std.proofs.Common.{◌≡◌, ℕ, zero, suc, ◌+◌, ◌<◌, ◌≤◌, Bool, true, false, cond, nat_lt, nat_eq, ◌||◌, Some, List, [], ◌∷◌, ◌++◌, length, set, take, append-nil, get_or, slice_get, position, refl, sym, ◌∙◌, ap, subst, arith}
-use Rattle.std.specs.List.{IsDistinct, AllByRecursion, count_by, list_any}
+use Rattle.std.proofs.Common.{◌≡◌, ℕ, zero, suc, Bool, true, false, cond, nat_eq, Some, List, [], ◌∷◌, ◌++◌, length, set, take, append-nil, get_or, slice_get, position, refl, sym, ◌∙◌, ap, subst, arith}
+use Rattle.std.specs.List.{IsDistinct, AllByRecursion, list_any}
 use Rattle.std.specs.Str.{bytes_eq}
 use Rattle.std.specs.Cmp.Lexicographic.{pointwise, bytes_decides}
 use Rattle.std.proofs.lemmas.Bool.{true≢false}
-use Rattle.std.proofs.lemmas.Bool.Decides.{nat_tests}
 use Rattle.std.proofs.lemmas.Option.{same_Some, slice_get-get_or, slice_get_within}
-use Rattle.std.proofs.lemmas.List.{get_or_default, length-take, take_at}
-use Rattle.std.proofs.lemmas.List.Folds.{list_any-append}
+use Rattle.std.proofs.lemmas.List.{get_or_default, take_at}
 use Rattle.std.proofs.lemmas.List.Quantifiers.{position-Some}
-use Rattle.std.proofs.lemmas.List.Sums.{count_by_more_no, count_by_more_yes}
 use Rattle.mt_frequencies.specs.declared.tally.Count.{Count}
-use Rattle.mt_frequencies.specs.Tallies.{Begins, IsAbsent, IsCounted, IsTally, Tallied, count_of, counted, counts_in, no_count}
+use Rattle.mt_frequencies.specs.Tallies.{Begins, IsAbsent, Tallied, count_of, counts_in, no_count}
 
 -- ## Values that are added
 
@@ -123,93 +120,6 @@ count_set (x ∷ xs) (d ∷ cs) zero w c distinct l e v =
     first_case (bytes_eq v x) c d (count_of xs cs v) ∙ ap (λ (b : Bool). cond b c (cond (bytes_eq v x) d (count_of xs cs v))) (ap (bytes_eq v) same)
 count_set (x ∷ xs) (d ∷ cs) (suc k) w c distinct l e v =
     later_case v x w c d (count_of xs (set cs k c) v) (count_of xs cs v) (at_apart x xs k w distinct.0 e) (count_set xs cs k w c distinct.1 (omega arith) e v)
-
--- a span is counted for one value
-pub count_one : (tally : Tallied) (values : List (List ℕ)) (counts : List Count) (k span : ℕ) (count counted_is : Count) → record { values = values; counts = counts } ≡ tally → IsDistinct (pointwise nat_eq) tally.values → length values ≡ length counts →
-    count ≡ get_or counts k count → counted_is ≡ counted span count → (w : List ℕ) → slice_get tally.values k ≡ Some w → IsCounted (counts_in tally) (w ∷ []) span (count_of values (set counts k counted_is))
-count_one tally values counts k span count counted_is view distinct_in_tally l is is_counted w at = record {
-  each = λ v.
-      ap (λ (c : Count). count_of values (set counts k c) v) is_counted ∙ count_set values counts k w (counted span count) distinct l e v ∙ by v (bytes_eq v w) refl
-      ∙ ap (λ (c : Count). cond (list_any (bytes_eq v) (w ∷ [])) (counted span c) c) (ap (λ (t : Tallied). counts_in t v) view);
-}
-  where
-    distinct : IsDistinct (pointwise nat_eq) values
-    distinct = subst (λ (t : Tallied). IsDistinct (pointwise nat_eq) t.values) (sym view) distinct_in_tally
-
-    e : slice_get values k ≡ Some w
-    e = ap (λ (t : Tallied). slice_get t.values k) view ∙ at
-
-    within : k < length counts
-    within = omega (arith, slice_get_within values k w e, l)
-
-    own_count : count ≡ count_of values counts w
-    own_count = is ∙ get_or_default counts k count no_count within ∙ sym (count_at values counts k w distinct l e)
-
-    by : (v : List ℕ) (b : Bool) → bytes_eq v w ≡ b → cond b (counted span count) (count_of values counts v) ≡ cond (b || false) (counted span (count_of values counts v)) (count_of values counts v)
-    by v true e = let same : v ≡ w = (bytes_decides v w).0 e in ap (counted span) (own_count ∙ ap (count_of values counts) (sym same))
-    by v false e = refl
-
--- ## One span after another
-
-not_less : (n : ℕ) → nat_lt n n ≡ false
-not_less n = grind (arith, nat_tests)
-
-less : (m n : ℕ) → m < n → nat_lt m n ≡ true
-less m n l = grind (arith, nat_tests)
-
--- a span that is counted twice is counted once
-counted_again : (span : ℕ) (count : Count) → counted span (counted span count) ≡ counted span count
-counted_again span count = by (nat_lt count.last span) refl
-  where
-    by : (b : Bool) → nat_lt count.last span ≡ b → counted span (cond b (record { spans = count.spans + 1; last = span }) count) ≡ cond b (record { spans = count.spans + 1; last = span }) count
-    by true e = ap (λ (b : Bool). cond b (record { spans = count.spans + 1 + 1; last = span }) (record { spans = count.spans + 1; last = span })) (not_less span)
-    by false e = ap (λ (b : Bool). cond b (record { spans = count.spans + 1; last = span }) count) e
-
-pub counted_then : (old mid new : List ℕ → Count) (xs ys : List (List ℕ)) (span : ℕ) → IsCounted old xs span mid → IsCounted mid ys span new → IsCounted old (xs ++ ys) span new
-counted_then old mid new xs ys span first then = record {
-  each = λ v.
-      then.each v ∙ ap (λ (c : Count). cond (list_any (bytes_eq v) ys) (counted span c) c) (first.each v)
-      ∙ by (list_any (bytes_eq v) xs) (list_any (bytes_eq v) ys) (old v)
-      ∙ ap (λ (b : Bool). cond b (counted span (old v)) (old v)) (sym (list_any-append (bytes_eq v) xs ys));
-}
-  where
-    by : (a b : Bool) (c : Count) → cond b (counted span (cond a (counted span c) c)) (cond a (counted span c) c) ≡ cond (a || b) (counted span c) c
-    by true true c = counted_again span c
-    by true false c = refl
-    by false true c = refl
-    by false false c = refl
-
-pub counted_none : (old new : List ℕ → Count) (span : ℕ) → ((v : List ℕ) → new v ≡ old v) → IsCounted old [] span new
-counted_none old new span same = record { each = same }
-
--- ## Spans
-
-pub tally_none : {X : Type 0} (near : X → List (List ℕ)) (counts : List ℕ → Count) → ((v : List ℕ) → counts v ≡ no_count) → IsTally near [] counts
-tally_none near counts none = record { spans = λ v. ap (λ (c : Count). c.spans) (none v); last = λ v. omega (arith, ap (λ (c : Count). c.last) (none v)) }
-
-pub tally_more : {X : Type 0} (near : X → List (List ℕ)) (xs : List X) (i : ℕ) (x : X) (old new : List ℕ → Count) → i < length xs → x ≡ get_or xs i x → IsTally near (take i xs) old → IsCounted old (near x) (i + 1) new → IsTally near (take (i + 1) xs) new
-tally_more {X} near xs i x old new l is tally counts = record {
-  spans = λ v. (by v (list_any (bytes_eq v) (near x)) refl).0;
-  last = λ v. omega (arith, (by v (list_any (bytes_eq v) (near x)) refl).1, length-take (i + 1) xs);
-}
-  where
-    by : (v : List ℕ) (b : Bool) → list_any (bytes_eq v) (near x) ≡ b → ((new v).spans ≡ count_by (λ y. list_any (bytes_eq v) (near y)) (take (i + 1) xs)) × ((new v).last ≤ i + 1)
-    by v true e =
-        let size : length (take i xs) ≡ i = omega (arith, length-take i xs) in
-        let below : nat_lt (old v).last (i + 1) ≡ true = less (old v).last (i + 1) (omega (arith, tally.last v)) in
-        let now : new v ≡ record { spans = (old v).spans + 1; last = i + 1 } =
-        counts.each v ∙ ap (λ (b : Bool). cond b (counted (i + 1) (old v)) (old v)) e ∙ ap (λ (b : Bool). cond b (record { spans = (old v).spans + 1; last = i + 1 }) (old v)) below in
-        let one = count_by_more_yes (λ y. list_any (bytes_eq v) (near y)) xs i x l (ap (λ y. list_any (bytes_eq v) (near y)) (sym is) ∙ e) in
-        (omega (arith, ap (λ (c : Count). c.spans) now, one, tally.spans v), omega (arith, ap (λ (c : Count). c.last) now))
-    by v false e =
-        let now : new v ≡ old v = counts.each v ∙ ap (λ (b : Bool). cond b (counted (i + 1) (old v)) (old v)) e in
-        let one = count_by_more_no (λ y. list_any (bytes_eq v) (near y)) xs i x l (ap (λ y. list_any (bytes_eq v) (near y)) (sym is) ∙ e) in
-        (omega (arith, ap (λ (c : Count). c.spans) now, one, tally.spans v), omega (arith, ap (λ (c : Count). c.last) now, tally.last v, length-take i xs))
-
--- ## Where a tally tells the same
-
-pub counted_from : (old mid new : List ℕ → Count) (values : List (List ℕ)) (span : ℕ) → ((v : List ℕ) → mid v ≡ old v) → IsCounted mid values span new → IsCounted old values span new
-counted_from old mid new values span same counts = record { each = λ v. counts.each v ∙ ap (λ (c : Count). cond (list_any (bytes_eq v) values) (counted span c) c) (same v) }
 
 -- ## What a tally tells by a number
 

@@ -13,3 +13,7 @@ pub mod Amounts
 pub mod Numbered
 pub mod Begun
 pub mod Reaches
+pub mod Parts
+pub mod Valued
+pub mod Stepped
+pub mod RunLaws

@@ -20,7 +20,7 @@ use Rattle.mt_frequencies.specs.Tokens.{ArePassed, AreTextNumbers, places_with, 
 
 -- ## Runs of places
 
-split_range : (a m n : ℕ) → range_with_len a (m + n) ≡ range_with_len a m ++ range_with_len (a + m) n
+pub split_range : (a m n : ℕ) → range_with_len a (m + n) ≡ range_with_len a m ++ range_with_len (a + m) n
 split_range a zero n = let one : 0 + n ≡ n = omega arith in let two : a ≡ a + 0 = omega arith in ap (range_with_len a) one ∙ ap (λ (k : ℕ). range_with_len k n) two
 split_range a (suc m) n =
     let one : suc m + n ≡ suc (m + n) = omega arith in

@@ -1,35 +1,15 @@
--- The values at one place after another.
-use Rattle.std.proofs.Common.{◌≡◌, ℕ, zero, suc, ◌+◌, ◌-◌, ◌<◌, ◌≤◌, List, [], ◌∷◌, ◌++◌, length, map, get_or, slice_get, Some, refl, sym, ◌∙◌, ap, ap₂, subst, arith}
+-- The values in the two runs of places of a window.
+use Rattle.std.proofs.Common.{◌≡◌, ℕ, zero, suc, ◌+◌, ◌-◌, min, List, ◌∷◌, ◌++◌, map, refl, sym, ◌∙◌, ap, ap₂, arith}
 use Rattle.std.specs.List.{range_with_len}
 use Rattle.std.proofs.lemmas.List.{map-append}
-use Rattle.std.proofs.lemmas.List.FromFn.{map-range_with_len_more}
-use Rattle.std.proofs.lemmas.Option.{slice_get-get_or}
-use Rattle.mt_segment_spec.specs.Tables.{Tables, number_at, tables_at}
-use Rattle.mt_reports.specs.Told.{told_value}
-use Rattle.mt_frequencies.specs.declared.tally.Count.{Count}
-use Rattle.mt_frequencies.specs.Tallies.{IsCounted}
-use Rattle.mt_frequencies.proofs.Counted.{counted_none, counted_then}
-
--- the values at the places from one on and before another
-abbrev pub values_at : Tables → (attr from to : ℕ) → List (List ℕ)
-values_at tables attr from to = map (told_value tables attr) (range_with_len from (to - from))
-
-pub run_none : (tables : Tables) (attr from span : ℕ) (old new : List ℕ → Count) → ((v : List ℕ) → new v ≡ old v) → IsCounted old (values_at tables attr from from) span new
-run_none tables attr from span old new same =
-    let none : 0 ≡ from - from = omega arith in
-    subst (λ (n : ℕ). IsCounted old (map (told_value tables attr) (range_with_len from n)) span new) none (counted_none old new span same)
-
-pub run_more : (tables : Tables) (attr from place number span : ℕ) (old mid new : List ℕ → Count) → from ≤ place → number ≡ number_at tables attr place → number < length (tables_at tables.attrs attr).lexicon →
-    IsCounted old (values_at tables attr from place) span mid → ((value : List ℕ) → slice_get (tables_at tables.attrs attr).lexicon number ≡ Some value → IsCounted mid (value ∷ []) span new) → IsCounted old (values_at tables attr from (place + 1)) span new
-run_more tables attr from place number span old mid new order is within front one =
-    let lexicon = (tables_at tables.attrs attr).lexicon in
-    let there : slice_get lexicon number ≡ Some (told_value tables attr place) = slice_get-get_or lexicon number [] within ∙ ap (λ (n : ℕ). Some (get_or lexicon n [])) is in
-    let next : place - from + 1 ≡ place + 1 - from = omega arith in
-    let all = map-range_with_len_more (told_value tables attr) from (place - from) place (omega arith) in
-    subst (λ (n : ℕ). IsCounted old (map (told_value tables attr) (range_with_len from n)) span new) next
-    (subst (λ (vs : List (List ℕ)). IsCounted old vs span new) (sym all) (counted_then old mid new (values_at tables attr from place) (told_value tables attr place ∷ []) span front (one (told_value tables attr place) there)))
-
--- ## Two runs of a text
+use Rattle.mt_text_spec.specs.Texts.{Span}
+use Rattle.mt_segment_spec.specs.Tables.{Tables, first_place}
+use Rattle.mt_report_spec.specs.Near.{places_at}
+use Rattle.mt_reports.specs.Told.{told_tokens, told_value}
+use Rattle.mt_frequencies.specs.declared.distances.Distances.{Distances}
+use Rattle.mt_frequencies.specs.Distances.{AreDistances, distances_of}
+use Rattle.mt_frequencies.specs.Seen.{around_text, places_near, values_in}
+use Rattle.mt_frequencies.proofs.Placed.{placed}
 
 shifted : (value : ℕ → List ℕ) (first from count : ℕ) → map (λ place. value (first + place)) (range_with_len from count) ≡ map value (range_with_len (first + from) count)
 shifted value first from zero = refl
@@ -40,11 +20,17 @@ shifted value first from (suc count) =
 shifted_run : (value : ℕ → List ℕ) (first from to : ℕ) → map (λ place. value (first + place)) (range_with_len from (to - from)) ≡ map value (range_with_len (first + from) (first + to - (first + from)))
 shifted_run value first from to = let same : to - from ≡ first + to - (first + from) = omega arith in shifted value first from (to - from) ∙ ap (λ (n : ℕ). map value (range_with_len (first + from) n)) same
 
-pub both_runs : (tables : Tables) (attr first first_is a b c d span : ℕ) (places : List ℕ) (old mid new : List ℕ → Count) → first ≡ first_is → places ≡ range_with_len a (b - a) ++ range_with_len c (d - c) →
-    IsCounted old (values_at tables attr (first + a) (first + b)) span mid → IsCounted mid (values_at tables attr (first + c) (first + d)) span new → IsCounted old (map (λ place. told_value tables attr (first_is + place)) places) span new
-both_runs tables attr first first_is a b c d span places old mid new same are one other =
+-- the values that tables tell near a span are those in its window
+pub values_are : (tables : Tables) (attr text : ℕ) (distances : Distances) (span : Span) → AreDistances distances →
+    map (λ place. told_value tables attr (first_place tables text + place)) (places_at (told_tokens tables text) span.begin (span.end - 1) (distances_of distances)) ≡ values_in tables attr (places_near (around_text tables text distances) span)
+values_are tables attr text distances span are =
     let value : ℕ → List ℕ = told_value tables attr in
-    let all : map (λ place. value (first + place)) places ≡ values_at tables attr (first + a) (first + b) ++ values_at tables attr (first + c) (first + d) =
-    ap (map (λ place. value (first + place))) are ∙ map-append (λ place. value (first + place)) (range_with_len a (b - a)) (range_with_len c (d - c)) ∙ ap₂ ◌++◌ (shifted_run value first a b) (shifted_run value first c d) in
-    subst (λ (n : ℕ). IsCounted old (map (λ place. value (n + place)) places) span new) same
-    (subst (λ (vs : List (List ℕ)). IsCounted old vs span new) (sym all) (counted_then old mid new (values_at tables attr (first + a) (first + b)) (values_at tables attr (first + c) (first + d)) span one other))
+    let first = first_place tables text in
+    let tokens = told_tokens tables text in
+    let a = span.begin - (distances.before_to - 1) in
+    let b = span.begin - (distances.before_from - 1) in
+    let c = min (span.end - 1 + distances.behind_from) tokens in
+    let d = min (span.end - 1 + distances.behind_to) tokens in
+    ap (map (λ place. value (first + place))) (placed tokens span.begin (span.end - 1) distances are a b c d refl refl refl refl)
+    ∙ map-append (λ place. value (first + place)) (range_with_len a (b - a)) (range_with_len c (d - c)) ∙ ap₂ ◌++◌ (shifted_run value first a b) (shifted_run value first c d)
+    ∙ sym (map-append value (range_with_len (first + a) (first + b - (first + a))) (range_with_len (first + c) (first + d - (first + c))))

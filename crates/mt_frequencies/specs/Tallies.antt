@@ -1,5 +1,5 @@
 -- What was counted for values.
-use Rattle.std.specs.Prelude.{ℕ, ◌≡◌, ◌+◌, ◌≤◌, nat_lt, nat_eq, if◌then◌else◌, Bool, false, List, [], ◌∷◌, ◌++◌, length, count_by}
+use Rattle.std.specs.Prelude.{ℕ, ◌≡◌, ◌≤◌, nat_lt, nat_eq, if◌then◌else◌, Bool, false, List, [], ◌∷◌, ◌++◌, length, count_by}
 use Rattle.std.specs.List.{list_any}
 use Rattle.std.specs.Str.{bytes_eq}
 use Rattle.std.specs.Cmp.Lexicographic.{pointwise}
@@ -33,14 +33,6 @@ pub record Begins (old new : List (List ℕ)) : Type 0 where
 -- a value is none of these
 abbrev pub IsAbsent : List (List ℕ) → List ℕ → Type 0
 IsAbsent values value = list_any (pointwise nat_eq value) values ≡ false
-
--- one span more, if it was not counted yet
-abbrev pub counted : (span : ℕ) → Count → Count
-counted span count = if nat_lt count.last span then record { spans = count.spans + 1; last = span } else count
-
--- a span was counted for each of these values, and for no other
-pub record IsCounted (old : List ℕ → Count) (values : List (List ℕ)) (span : ℕ) (new : List ℕ → Count) : Type 0 where
-  pub each : (value : List ℕ) → new value ≡ (if list_any (bytes_eq value) values then counted span (old value) else old value)
 
 -- as many spans were counted for each value as have it near them, and they are numbered from 1
 pub record IsTally {X : Type 0} (near : X → List (List ℕ)) (seen : List X) (counts : List ℕ → Count) : Type 0 where

@@ -155,7 +155,7 @@ fn count_by<L: Ledger>(
 }
 
 /// Whether a text with this number is one of so many behind others.
-fn is_among(texts: &[u32], before: u32, text: u32) -> bool
+pub(crate) fn is_among(texts: &[u32], before: u32, text: u32) -> bool
     ensures { IsTrue result ↔ (before ≤ text) × (text < before + length texts.now) }
 {
     before <= text && ((text - before) as usize) < texts.len()

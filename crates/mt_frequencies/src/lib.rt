@@ -7,16 +7,18 @@
 mod begins;
 mod collocate;
 mod collocates;
-mod counting;
 mod distances;
 mod entry;
 mod frequencies;
 mod joining;
 mod lines;
 mod numbers;
+mod run;
+mod seen;
 mod spans;
 mod tally;
 mod tokens;
+mod walk;
 
 pub use collocates::collocations;
 pub use frequencies::frequency;

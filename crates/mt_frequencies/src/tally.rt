@@ -1,13 +1,12 @@
 //! How many spans have each value near them.
 
-ghost use Rattle.std.specs.Prelude.{◌≡◌, ℕ, ◌+◌, ◌-◌, ◌^◌, ◌<◌, ◌≤◌, List as Items, [], ◌∷◌, length, slice_get, Some, IfOk, OnOk};
+ghost use Rattle.std.specs.Prelude.{◌≡◌, ℕ, ◌+◌, ◌-◌, ◌^◌, ◌<◌, ◌≤◌, List as Items, [], length, slice_get, Some, IfOk, OnOk};
 ghost use Rattle.std.specs.List.{IsDistinct};
 ghost use Rattle.std.specs.Cmp.Lexicographic.{pointwise};
 ghost use Rattle.std.specs.Prelude.{nat_eq};
-ghost use Rattle.mt_frequencies.specs.Tallies as spec;
 ghost use Rattle.mt_frequencies.specs.Amounts as amounts;
 ghost use Rattle.mt_frequencies.specs.Amounts.{IsRaised};
-ghost use Rattle.mt_frequencies.specs.Tallies.{Begins, IsAbsent, IsCounted, counts_in};
+ghost use Rattle.mt_frequencies.specs.Tallies.{Begins, IsAbsent, counts_in};
 
 use indexmap::IndexSet;
 use mt_base::{NoMemory, Value};
@@ -112,17 +111,6 @@ impl Tally {
         }
     }
 
-    /// Counts a span, by its number, for the value with this number. A span that was counted for it last is not counted again. It takes no memory.
-    pub(crate) fn count(&mut self, number: u32, span: u32)
-        requires { number < length self.old.values }
-        ensures values { self.new.values ≡ self.old.values }
-        ensures counted { (value : Items ℕ) → slice_get self.old.values number ≡ Some value → IsCounted (counts_in self.old) (value ∷ []) span (counts_in self.new) }
-    {
-        self.len();
-        let place = number as usize;
-        self.counts[place] = counted(self.counts[place], span);
-    }
-
     /// Counts so many spans more for the value with this number. It takes no memory.
     pub(crate) fn raise(&mut self, number: u32, more: u32)
         requires number { number < length self.old.values }
@@ -146,21 +134,5 @@ fn raised(count: Count, more: u32) -> Count
     Count {
         spans: count.spans + more,
         last: count.last + more,
-    }
-}
-
-/// A count after a span, which is counted where it is behind the last one.
-fn counted(count: Count, span: u32) -> Count
-    requires { count.spans ≤ count.last }
-    ensures counted { result ≡ spec.counted span count }
-    ensures order { result.spans ≤ result.last }
-{
-    if count.last < span {
-        Count {
-            spans: count.spans + 1,
-            last: span,
-        }
-    } else {
-        count
     }
 }
