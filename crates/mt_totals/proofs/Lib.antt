@@ -1,0 +1,11 @@
+pub mod SpanCounts
+pub mod Pairing
+pub mod Marked
+pub mod Ones
+pub mod Listed
+pub mod SetWords
+pub mod Values
+pub mod Standing
+pub mod Joining
+pub mod Spanned
+pub mod AllLive

@@ -1,0 +1,15 @@
+//! How many spans a query has in a corpus.
+//!
+//! Where a query is one test of a token and no text was removed, no row is listed: each token of which the test holds is a span, and how many they are is told by the
+//! lengths of posting lists, or by the set of their places. Of any other query the rows are found, and their spans are counted.
+#![tactic(auto)]
+
+mod alone;
+mod counts;
+mod segments;
+mod sets;
+mod spans;
+mod totals;
+mod whole;
+
+pub use totals::span_total;
