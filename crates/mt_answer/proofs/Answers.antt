@@ -16,6 +16,7 @@ use Rattle.mt_rows.specs.Rows.{IsSpanIn}
 use Rattle.mt_rows.specs.Laws.{lists_alike}
 use Rattle.mt_corpus_spec.specs.Groups.{corpus_of}
 use Rattle.mt_corpus_spec.specs.Images.{Corpus, AreImagesBy}
+use Rattle.mt_totals.specs.Totals.{HasSpanTotal}
 use Rattle.mt_report_spec.specs.Held.{LiesIn}
 use Rattle.mt_report_spec.specs.Lines.{query_lines}
 use Rattle.mt_counts.specs.Counted.{Counted}
@@ -29,7 +30,7 @@ use Rattle.mt_answer.specs.declared.reply.Reply.TheVariants.{Lines, NoMemory}
 use Rattle.mt_answer.specs.declared.declined.Declined.{Declined}
 use Rattle.mt_answer.specs.Declines.{DeclinesQuery, declined_line}
 use Rattle.mt_answer.specs.Replies.{SaysLines, Given, AnswersAsk, seen, gained_of}
-use Rattle.mt_answer.specs.Rows.{HasRows, HasSpans, HasImages, IsConcordance}
+use Rattle.mt_answer.specs.Rows.{HasRows, HasTotal, HasImages, IsConcordance}
 use Rattle.mt_answer.proofs.Asks.{starved, unasked}
 use Rattle.mt_query_spec.specs.Contents.{patterns}
 use Rattle.mt_eval_spec.specs.Asked.{query_patterns}
@@ -52,6 +53,18 @@ has_rows one corpus cql query rows read whole kept few = record {
   passes = λ images grammar agree. all_pass one (seen images corpus grammar) cql query read
       (wholes_of (patterns query) (subst (λ (texts : List (List ℕ)). All built.IsWhole texts) (patterns_same query) whole)) (few images agree);
   kept = kept;
+}
+
+-- the same of how many spans there are
+pub has_total : OneMeaning → (corpus : Corpus) (cql : List ℕ) (query : QueryOf) (total : ℕ) → Means corpus.registry 0 cql (Ok query) → All built.IsWhole (query_patterns query) →
+    ((images : Images) → AreImagesBy images corpus.taken → HasSpanTotal images corpus.registry (corpus_of corpus.groups) query total) →
+    ((images : Images) → AreImagesBy images corpus.taken → ¬ Over images corpus.registry (corpus_of corpus.groups) query) → HasTotal corpus cql total
+has_total one corpus cql query total read whole counted few = record {
+  query = query;
+  read = read;
+  passes = λ images grammar agree. all_pass one (seen images corpus grammar) cql query read
+      (wholes_of (patterns query) (subst (λ (texts : List (List ℕ)). All built.IsWhole texts) (patterns_same query) whole)) (few images agree);
+  counted = counted;
 }
 
 -- ## Spans
@@ -83,22 +96,24 @@ spans_lie corpus rows spans inside all = λ k d l.
 
 -- ## `count`
 
-pub counts : (corpus : Corpus) (counted : Option Counted) (cql : List ℕ) (rows : List Row) (count : ℕ) (line : List ℕ) (old : List (List ℕ)) → HasRows corpus cql rows → HasSpans rows count →
-    line ≡ closed (codes "=" ++ 32 ∷ decimal count) → AnswersAsk corpus counted (Count cql) old old (Lines line)
-counts corpus counted cql rows count line old has spans e = record {
+pub counts : (corpus : Corpus) (counted : Option Counted) (cql : List ℕ) (total : ℕ) (line : List ℕ) (old : List (List ℕ)) → HasTotal corpus cql total → line ≡ closed (codes "=" ++ 32 ∷ decimal total) →
+    AnswersAsk corpus counted (Count cql) old old (Lines line)
+counts corpus counted cql total line old has e = record {
   refused = [];
   more = sym (append-nil old);
-  answers = λ images grammar agree are. record {
-    answer = LinesAnswer (number_line count ∷ []);
-    says = SaysLines line (number_line count ∷ []) (e ∙ sym (append-nil _));
-    holds = AskAnswered (number_line count ∷ []) (has.passes images grammar agree) (record {
-      query = has.query;
-      read = has.read;
-      spans = spans.spans;
-      are = spans_of images corpus.registry (corpus_of corpus.groups) has.query rows spans.spans (has.kept images agree) spans.all;
-      says = rw spans.counted refl;
-    });
-  };
+  answers = λ images grammar agree are.
+      let spans = has.counted images agree in
+      record {
+        answer = LinesAnswer (number_line total ∷ []);
+        says = SaysLines line (number_line total ∷ []) (e ∙ sym (append-nil _));
+        holds = AskAnswered (number_line total ∷ []) (has.passes images grammar agree) (record {
+          query = has.query;
+          read = has.read;
+          spans = spans.spans;
+          are = spans.are;
+          says = rw spans.counted refl;
+        });
+      };
 }
 
 -- ## `query`
@@ -166,11 +181,10 @@ if_ok : {X E : Type 0} (P Q : X → Type 0) → ((x : X) → P x → Q x) → (m
 if_ok P Q to (Ok x) p = to x p
 if_ok P Q to (Err e) p = tt
 
-pub count_told : {E : Type 0} (corpus : Corpus) (counted : Option Counted) (cql : List ℕ) (rows : List Row) (count : ℕ) (old new : List (List ℕ)) (made : Result (List ℕ) E) (reply : Reply) → new ≡ old → HasRows corpus cql rows →
-    HasSpans rows count → IfOk made (λ line. line ≡ closed (codes "=" ++ 32 ∷ decimal count)) → IfOk made (λ bytes. reply ≡ Lines bytes) → OnErr made (reply ≡ NoMemory) →
-    AnswersAsk corpus counted (Count cql) old new reply
-count_told corpus counted cql rows count old new made reply kept has spans line is none = rw kept (told corpus counted (Count cql) old made reply
-    (if_ok (λ bytes. bytes ≡ closed (codes "=" ++ 32 ∷ decimal count)) (λ bytes. AnswersAsk corpus counted (Count cql) old old (Lines bytes)) (λ bytes e. counts corpus counted cql rows count bytes old has spans e) made line)
+pub count_told : {E : Type 0} (corpus : Corpus) (counted : Option Counted) (cql : List ℕ) (total : ℕ) (old new : List (List ℕ)) (made : Result (List ℕ) E) (reply : Reply) → new ≡ old → HasTotal corpus cql total →
+    IfOk made (λ line. line ≡ closed (codes "=" ++ 32 ∷ decimal total)) → IfOk made (λ bytes. reply ≡ Lines bytes) → OnErr made (reply ≡ NoMemory) → AnswersAsk corpus counted (Count cql) old new reply
+count_told corpus counted cql total old new made reply kept has line is none = rw kept (told corpus counted (Count cql) old made reply
+    (if_ok (λ bytes. bytes ≡ closed (codes "=" ++ 32 ∷ decimal total)) (λ bytes. AnswersAsk corpus counted (Count cql) old old (Lines bytes)) (λ bytes e. counts corpus counted cql total bytes old has e) made line)
     (count_starves corpus counted cql old) is none)
 
 pub query_told : {E : Type 0} (corpus : Corpus) (counted : Option Counted) (cql : List ℕ) (rows : List Row) (old new : List (List ℕ)) (made : Result (List ℕ) E) (reply : Reply) → new ≡ old → HasRows corpus cql rows →

@@ -3,7 +3,6 @@ pub mod Patterns
 pub mod Same
 pub mod Checks
 pub mod Declines
-pub mod SpanCounts
 pub mod Texts
 pub mod Answers
 pub mod Fitting

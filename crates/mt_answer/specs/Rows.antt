@@ -1,5 +1,5 @@
 -- The rows and the spans of a query of which all checks pass.
-use Rattle.std.specs.Prelude.{ℕ, ◌≡◌, List, length, Option, Ok}
+use Rattle.std.specs.Prelude.{ℕ, ◌≡◌, List, Option, Ok}
 use Rattle.std.specs.List.{flat_map}
 use Rattle.mt_text_spec.specs.Lines.{closed}
 use Rattle.mt_text_spec.specs.Orders.{span_cmp}
@@ -12,6 +12,7 @@ use Rattle.mt_match_spec.specs.Kept.{Kept}
 use Rattle.mt_rows.specs.Rows.{IsSpanIn}
 use Rattle.mt_corpus_spec.specs.Groups.{corpus_of}
 use Rattle.mt_corpus_spec.specs.Images.{Corpus, AreImagesBy}
+use Rattle.mt_totals.specs.Totals.{HasSpanTotal}
 use Rattle.mt_report_spec.specs.Lines.{query_lines}
 use Rattle.mt_session_spec.specs.Checks.{NoneStands}
 use Rattle.mt_session_spec.specs.Asking.{query_checks}
@@ -24,11 +25,12 @@ pub record HasRows (corpus : Corpus) (cql : List ℕ) (rows : List Row) : Type 0
   pub passes : (images : Images) (grammar : Option Grammar) → AreImagesBy images corpus.taken → NoneStands (query_checks (seen images corpus grammar) cql)
   pub kept : (images : Images) → AreImagesBy images corpus.taken → Kept images corpus.registry (corpus_of corpus.groups) query rows
 
--- rows have so many different spans
-pub record HasSpans (rows : List Row) (count : ℕ) : Type 0 where
-  pub spans : List Span
-  pub all : ListsAll span_cmp (IsSpanIn rows) spans
-  pub counted : count ≡ length spans
+-- The same, where the query has so many spans.
+pub record HasTotal (corpus : Corpus) (cql : List ℕ) (total : ℕ) : Type 0 where
+  pub query : Query
+  pub read : Means corpus.registry 0 cql (Ok query)
+  pub passes : (images : Images) (grammar : Option Grammar) → AreImagesBy images corpus.taken → NoneStands (query_checks (seen images corpus grammar) cql)
+  pub counted : (images : Images) → AreImagesBy images corpus.taken → HasSpanTotal images corpus.registry (corpus_of corpus.groups) query total
 
 -- some mappers make the images that were taken
 pub record HasImages (corpus : Corpus) : Type 0 where

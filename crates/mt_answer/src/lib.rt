@@ -1,7 +1,7 @@
 //! Answers to questions about a corpus, and the lines that refuse a command.
 //!
 //! A question that has a query is answered in the order of its checks: `read_query` reads the text, `query_rows` finds the rows or says why there are none
-//! (`Declined`), and `count` and `query` say what is answered of them. `freq` and `colloc` look up their attribute before. `sketch` and `thes`
+//! (`Declined`), and `query` says what is answered of them; for `count`, `query_total` tells how many spans they have. `freq` and `colloc` look up their attribute before. `sketch` and `thes`
 //! ask what the grammar that is held counts (`GrammarCounts`).
 #![tactic(auto)]
 
@@ -20,9 +20,9 @@ mod reply;
 mod reporting;
 mod rows;
 mod sketches;
-mod spans;
 mod thesaurus;
 mod told;
+mod totals;
 
 pub use asking::answer;
 pub use counted::GrammarCounts;

@@ -88,7 +88,7 @@ fn rows_by<P: PatternShop, L: Ledger>(
 }
 
 /// Why there are no rows, as it is told.
-fn declined_by(error: RowsError) -> Declined<'static>
+pub(crate) fn declined_by(error: RowsError) -> Declined<'static>
     ensures { result ≡ declined_by error }
 {
     match error {
