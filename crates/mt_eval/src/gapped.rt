@@ -117,11 +117,13 @@ fn reach_of<L: Ledger>(
     most
 }
 
-/// Adds the rows that begin at a place of a text.
+/// Adds the rows that begin at a place of a text, whose tokens stand in the segment from `first` on, before `end`.
 fn add_from<L: Ledger>(
     gapped: &Gapped<'_>,
     segment: &Segment,
     text: u32,
+    first: u32,
+    end: u32,
     begin: u32,
     room: u32,
     steps: &mut Steps<L>,
@@ -130,13 +132,15 @@ fn add_from<L: Ledger>(
     requires text { text < length segment.now.texts }
     requires tests { AreTestsAround segment.now (shape gapped.now.expr.now) gapped.now.before.now gapped.now.gap.now gapped.now.after.now gapped.now.least gapped.now.most }
     requires few { gapped.now.most < 4294967295 }
+    requires first { first ≡ first_place segment.now text }
+    requires end { end ≡ first_place segment.now (text + 1) }
+    requires within { end ≤ token_count segment.now }
     requires inside { first_place segment.now text + begin ≤ first_place segment.now (text + 1) }
     ensures ok { OnOk result (Appends (IsRowFrom (told segment.now text) (shape gapped.now.expr.now) text begin) room out.old out.new) }
     ensures more { IsErrOf result EvalError.TooManyRows → HasLonger (IsRowFrom (told segment.now text) (shape gapped.now.expr.now) text begin) room }
     ensures rises { steps.old ≤ steps.new }
 {
     let _tokens = segment.tokens();
-    let (first, end) = segment.text_bounds(text);
     let many = gapped.before.len();
     if ((end - (first + begin)) as usize) < many {
         return Ok(());
@@ -169,7 +173,7 @@ fn scan_gapped<L: Ledger>(
     let before_all = out.len();
     for begin in 0..end - first {
         let left = room - (out.len() - before_all) as u32;
-        add_from(gapped, segment, text, begin, left, steps, out)?;
+        add_from(gapped, segment, text, first, end, begin, left, steps, out)?;
     }
     Ok(())
 }

@@ -12,13 +12,32 @@ use mt_prepare::Resolved;
 use mt_segment::Segment;
 use std::sync::ledger::Ledger;
 
-/// Whether a test says so of the token at a place of the segment. The test of one value is one step.
+/// Whether a test says so of the token at a place of the segment. The test of one value is one step. For such a test nothing is called.
+#[inline]
 pub(crate) fn says<L: Ledger>(
     test: &Resolved,
     segment: &Segment,
     place: u32,
     steps: &mut Steps<L>,
 ) -> bool
+    requires attrs { HasAttrs segment.now test.now }
+    requires place { place < token_count segment.now }
+    ensures says { Decides result (SaysAt segment.now test.now place) }
+    ensures rises { steps.old ≤ steps.new }
+    ensures one { IsOne test.now → steps.new ≤ steps.old + 1 }
+{
+    match test {
+        Resolved::One { attr, id, not } => {
+            let number = segment.value_id(*attr, place, steps);
+            unless(*not, is_it(*id, number))
+        }
+        _ => any_says(test, segment, place, steps),
+    }
+}
+
+/// The same, of any test.
+#[inline(never)]
+fn any_says<L: Ledger>(test: &Resolved, segment: &Segment, place: u32, steps: &mut Steps<L>) -> bool
     requires attrs { HasAttrs segment.now test.now }
     requires place { place < token_count segment.now }
     ensures says { Decides result (SaysAt segment.now test.now place) }
@@ -35,18 +54,18 @@ pub(crate) fn says<L: Ledger>(
             let number = segment.value_id(*attr, place, steps);
             unless(*not, ids.has(number))
         }
-        Resolved::Not(inner) => !says(inner, segment, place, steps),
+        Resolved::Not(inner) => !any_says(inner, segment, place, steps),
         Resolved::Both(left, right) => {
-            if !says(left, segment, place, steps) {
+            if !any_says(left, segment, place, steps) {
                 return false;
             }
-            says(right, segment, place, steps)
+            any_says(right, segment, place, steps)
         }
         Resolved::Either(left, right) => {
-            if says(left, segment, place, steps) {
+            if any_says(left, segment, place, steps) {
                 return true;
             }
-            says(right, segment, place, steps)
+            any_says(right, segment, place, steps)
         }
     }
 }

@@ -1,9 +1,9 @@
 -- Lists, and lists that are made of the parts of their items, as far as a loop has gone.
-use Rattle.std.proofs.Common.{◌≡◌, ℕ, zero, suc, ◌+◌, ◌-◌, ◌<◌, ◌≤◌, ◌⊎◌, inl, inr, List, [], ◌∷◌, ◌++◌, length, length-append, map, take, drop, get_or, refl, sym, ◌∙◌, ap, subst, append_assoc, arith}
+use Rattle.std.proofs.Common.{◌≡◌, ℕ, zero, suc, ◌+◌, ◌-◌, ◌<◌, ◌≤◌, ◌⊎◌, inl, inr, List, [], ◌∷◌, ◌++◌, length, length-append, map, take, drop, set, get_or, refl, sym, ◌∙◌, ap, subst, append_assoc, arith}
 use Rattle.std.specs.List.{All, AllZip, Contains, flat_map, slice_range}
 use Rattle.std.proofs.lemmas.Bool.{cases_lt}
 use Rattle.std.proofs.lemmas.Grind.{flat_map-append}
-use Rattle.std.proofs.lemmas.List.{append-nil, drop-take, get_or_append_left, get_or-append-add, get_or-map, length-map, map-append, take_all, take_more}
+use Rattle.std.proofs.lemmas.List.{append-nil, drop-take, get_or_append_left, get_or-append-add, get_or-map, length-map, map-append, take_all, take_more, take_more_set}
 use Rattle.std.proofs.lemmas.Slice.Zip.{all_zipped_more}
 
 -- ---- what stands in a list
@@ -74,11 +74,14 @@ module _ {X Y : Type 0} (R : X → Y → Type 0) where
   pub pair_more : (xs : List X) (ys new : List Y) (i : ℕ) (x : X) (y : Y) → i < length xs → x ≡ get_or xs i x → new ≡ ys ++ y ∷ [] → AllZip R (take i xs) ys → R x y → AllZip R (take (i + 1) xs) new
   pair_more xs ys new i x y l e is all one = subst (λ zs. AllZip R zs new) (sym (one_more xs i x l e)) (subst (λ zs. AllZip R (take i xs ++ x ∷ []) zs) (sym is) (all_zipped_more R (take i xs) ys x y all one))
 
-  -- the same behind others
-  pub behind_more : (before xs : List X) (ys new : List Y) (i : ℕ) (x : X) (y : Y) → i < length xs → x ≡ get_or xs i x → new ≡ ys ++ y ∷ [] → AllZip R (before ++ take i xs) ys → R x y → AllZip R (before ++ take (i + 1) xs) new
-  behind_more before xs ys new i x y l e is all one =
-      subst (λ zs. AllZip R zs new) (append_assoc before (take i xs) (x ∷ []) ∙ ap (λ zs. before ++ zs) (sym (one_more xs i x l e)))
-      (subst (λ zs. AllZip R ((before ++ take i xs) ++ x ∷ []) zs) (sym is) (all_zipped_more R (before ++ take i xs) ys x y all one))
+  -- one more that stands behind whatever others do
+  pub behind_more : (before xs : List X) (ys new : List Y) (i : ℕ) (x : X) → i < length xs → x ≡ get_or xs i x → ((others : List X) → AllZip R others ys → AllZip R (others ++ x ∷ []) new) → AllZip R (before ++ take i xs) ys → AllZip R (before ++ take (i + 1) xs) new
+  behind_more before xs ys new i x l e adds all =
+      subst (λ zs. AllZip R zs new) (append_assoc before (take i xs) (x ∷ []) ∙ ap (λ zs. before ++ zs) (sym (one_more xs i x l e))) (adds (before ++ take i xs) all)
+
+  -- one that is put behind so many
+  pub one_put : (before : List X) (x : X) (ys : List Y) (count : ℕ) (y : Y) → count < length ys → R x y → AllZip R before (take count ys) → AllZip R (before ++ x ∷ []) (take (count + 1) (set ys count y))
+  one_put before x ys count y l one all = rw (take_more_set ys count y l) (all_zipped_more R before (take count ys) x y all one)
 
   -- Two lists go together where each is joined of two, of which the first ones are of one length: so do the parts.
   pub both_parts : (xs us : List X) (ys : List Y) → AllZip R (xs ++ us) ys → AllZip R xs (take (length xs) ys) × AllZip R us (drop (length xs) ys)

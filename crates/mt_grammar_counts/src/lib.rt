@@ -11,20 +11,23 @@ mod lines;
 mod patterns;
 mod prepared;
 mod query;
+mod ready_queries;
 mod segments;
-mod taking_back;
 mod text_counts;
 mod texts;
 
 pub use counting::{count_added, count_corpus, count_named};
 pub use error::CountError;
+use mt_instances::Room;
 pub use patterns::GrammarPatterns;
+use segments::Buffers;
 pub use text_counts::TextCounts;
 
 fn shared<T: Send + Sync>() {}
 
-/// That threads may share what an error says, and what was counted, is proved by this function.
+/// That threads may share what an error says, and the memory in which a text is counted, is proved by this function.
 pub fn are_shared() {
     shared::<CountError>();
-    shared::<TextCounts>();
+    shared::<Room>();
+    shared::<Buffers>();
 }

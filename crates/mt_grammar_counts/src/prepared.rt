@@ -1,8 +1,8 @@
 //! Queries of a sketch grammar made ready for a segment.
 
-ghost use Rattle.std.specs.Prelude.{◌≡◌, ◌<◌, ◌++◌, [], List as Items, length, slice_index_or, IfOk, OnOk};
+ghost use Rattle.std.specs.Prelude.{◌≡◌, ◌<◌, ◌++◌, ◌∷◌, [], List as Items, length, slice_index_or, OnOk};
 ghost use Rattle.std.specs.List.{All, AllZip};
-ghost use Rattle.mt_text_spec.specs.Queries.{Query};
+ghost use Rattle.mt_text_spec.specs.Queries as q;
 ghost use Rattle.mt_eval_spec.specs.Told.{IsFor};
 ghost use Rattle.mt_eval_spec.specs.Asked.{query_patterns};
 ghost use Rattle.mt_prepare.specs.KnownSpans.{AreSpansKnown};
@@ -12,17 +12,18 @@ ghost use Rattle.mt_grammar_counts.specs.Collecting.{IsReadyGrammar};
 ghost use Rattle.mt_grammar_counts.specs.Told.{AreFor};
 
 use super::patterns::{GrammarPatterns, RelationPatterns};
-use mt_base::{List, NoMemory, Steps};
+use super::ready_queries::ReadyQueries;
+use mt_base::{NoMemory, Steps};
 use mt_cql::Query;
 use mt_grammar::{Grammar, Relation};
 use mt_pattern::PatternShop;
-use mt_prepare::{KnownSpans, Prepared};
+use mt_prepare::KnownSpans;
 use mt_segment::Segment;
 use std::alloc::Global;
 use std::sync::ledger::Ledger;
 
 impl<P: PatternShop> RelationPatterns<P> {
-    /// Makes the query with this number ready for a segment.
+    /// Makes the query with this number ready for a segment, and adds it to others.
     fn prepare<L: Ledger>(
         &mut self,
         alloc: Global,
@@ -30,19 +31,21 @@ impl<P: PatternShop> RelationPatterns<P> {
         query: &Query,
         segment: &Segment,
         spans: &mut KnownSpans,
+        prepared: &mut ReadyQueries,
         shop: &mut P,
         steps: &mut Steps<L>,
-    ) -> Result<Prepared, NoMemory>
+    ) -> Result<(), NoMemory>
         requires query { IsFor segment.now query.now }
         requires number { number < length self.old }
         requires patterns { slice_index_or self.old number [] ≡ query_patterns query.now }
         requires spans { AreSpansKnown segment.now spans.old }
         ensures spans { AreSpansKnown segment.now spans.new }
-        ensures prepared { IfOk result (λ prepared. IsPrepared segment.now query.now prepared) }
+        ensures prepared { OnOk result ((before : Items q.Query) → AllZip (IsPrepared segment.now) before prepared.old → AllZip (IsPrepared segment.now) (before ++ query.now ∷ []) prepared.new) }
         ensures texts { self.new ≡ self.old }
         ensures kept { P.refused shop.new ≡ P.refused shop.old }
     {
-        self.queries[number].prepare(alloc, query, segment, spans, shop, steps)
+        let patterns = &mut self.queries[number];
+        prepared.add(alloc, query, patterns, segment, spans, shop, steps)
     }
 
     /// Makes all queries of a relation ready for a segment, and adds them to others.
@@ -52,7 +55,7 @@ impl<P: PatternShop> RelationPatterns<P> {
         relation: &Relation,
         segment: &Segment,
         spans: &mut KnownSpans,
-        prepared: &mut List<Prepared>,
+        prepared: &mut ReadyQueries,
         shop: &mut P,
         steps: &mut Steps<L>,
     ) -> Result<(), NoMemory>
@@ -60,15 +63,14 @@ impl<P: PatternShop> RelationPatterns<P> {
         requires patterns { self.old ≡ relation_patterns relation.now }
         requires spans { AreSpansKnown segment.now spans.old }
         ensures spans { AreSpansKnown segment.now spans.new }
-        ensures prepared { OnOk result ((before : Items Query) → AllZip (IsPrepared segment.now) before prepared.old → AllZip (IsPrepared segment.now) (before ++ relation.now.queries) prepared.new) }
+        ensures prepared { OnOk result ((before : Items q.Query) → AllZip (IsPrepared segment.now) before prepared.old → AllZip (IsPrepared segment.now) (before ++ relation.now.queries) prepared.new) }
         ensures texts { self.new ≡ self.old }
         ensures kept { P.refused shop.new ≡ P.refused shop.old }
     {
         let queries = relation.queries();
         for i in 0..queries.len() {
             let query = queries.get(i);
-            let ready = self.prepare(alloc, i, query, segment, spans, shop, steps)?;
-            prepared.push(ready)?;
+            self.prepare(alloc, i, query, segment, spans, prepared, shop, steps)?;
         }
         Ok(())
     }
@@ -83,7 +85,7 @@ impl<P: PatternShop> GrammarPatterns<P> {
         relation: &Relation,
         segment: &Segment,
         spans: &mut KnownSpans,
-        prepared: &mut List<Prepared>,
+        prepared: &mut ReadyQueries,
         shop: &mut P,
         steps: &mut Steps<L>,
     ) -> Result<(), NoMemory>
@@ -92,54 +94,38 @@ impl<P: PatternShop> GrammarPatterns<P> {
         requires patterns { slice_index_or self.old number [] ≡ relation_patterns relation.now }
         requires spans { AreSpansKnown segment.now spans.old }
         ensures spans { AreSpansKnown segment.now spans.new }
-        ensures prepared { OnOk result ((before : Items Query) → AllZip (IsPrepared segment.now) before prepared.old → AllZip (IsPrepared segment.now) (before ++ relation.now.queries) prepared.new) }
+        ensures prepared { OnOk result ((before : Items q.Query) → AllZip (IsPrepared segment.now) before prepared.old → AllZip (IsPrepared segment.now) (before ++ relation.now.queries) prepared.new) }
         ensures texts { self.new ≡ self.old }
         ensures kept { P.refused shop.new ≡ P.refused shop.old }
     {
         self.relations[number].prepare_all(alloc, relation, segment, spans, prepared, shop, steps)
     }
 
-    /// Makes all queries of a grammar ready for a segment, one relation after another. Tags that have the same spans there share them.
+    /// Makes all queries of a grammar ready for a segment, one relation after another, in the place of those that were ready for another one. Tags that have the same spans
+    /// there share them.
     pub(crate) fn prepare_all<L: Ledger>(
         &mut self,
         alloc: Global,
         grammar: &Grammar,
         segment: &Segment,
+        spans: &mut KnownSpans,
+        prepared: &mut ReadyQueries,
         shop: &mut P,
         steps: &mut Steps<L>,
-    ) -> Result<List<Prepared>, NoMemory>
+    ) -> Result<(), NoMemory>
         requires queries { All (AreFor segment.now) grammar.now.relations }
         requires patterns { self.old ≡ patterns_of grammar.now }
-        ensures prepared { IfOk result (IsReadyGrammar segment.now grammar.now) }
+        ensures prepared { OnOk result (IsReadyGrammar segment.now grammar.now prepared.new) }
         ensures texts { self.new ≡ self.old }
         ensures kept { P.refused shop.new ≡ P.refused shop.old }
     {
-        let mut spans = KnownSpans::new(alloc);
-        let mut prepared = List::with_capacity(alloc, query_count(grammar))?;
+        spans.turn();
+        prepared.clear();
         let relations = grammar.relations();
         for i in 0..relations.len() {
             let relation = relations.get(i);
-            self.prepare(
-                alloc,
-                i,
-                relation,
-                segment,
-                &mut spans,
-                &mut prepared,
-                shop,
-                steps,
-            )?;
+            self.prepare(alloc, i, relation, segment, spans, prepared, shop, steps)?;
         }
-        Ok(prepared)
+        Ok(())
     }
-}
-
-/// How many queries a grammar has, so that there is room for just these at once.
-fn query_count(grammar: &Grammar) -> usize {
-    let mut count: usize = 0;
-    let relations = grammar.relations();
-    for i in 0..relations.len() {
-        count = count.saturating_add(relations.get(i).queries().len());
-    }
-    count
 }

@@ -1,6 +1,6 @@
 //! The rows of one query in one text.
 
-ghost use Rattle.std.specs.Prelude.{◌≡◌, ℕ, [], ◌∷◌, ◌++◌, List as Items, replicate, IfOk, IfSome, MatchOption, OnOk, IsErrOf};
+ghost use Rattle.std.specs.Prelude.{◌≡◌, ℕ, [], ◌∷◌, ◌++◌, List as Items, replicate, None, IfOk, IfSome, MatchOption, OnOk, IsErrOf};
 ghost use Rattle.mt_text_spec.specs.Texts as texts;
 ghost use Rattle.mt_match_spec.specs.Values.{Images};
 ghost use Rattle.mt_match_spec.specs.Kept.{Over, operand_rows_limit};
@@ -105,7 +105,7 @@ fn rows_of<L: Ledger>(
     }
 }
 
-/// The rows that a query of a relation keeps in a text, which are not told yet.
+/// The many rows that a query of a relation keeps in a text, which are not told yet.
 #[derive(Drop)]
 pub(crate) struct Waiting<'a> {
     pub(crate) relation: &'a Relation,
@@ -217,8 +217,125 @@ fn tell_and_list<R: Threads + Sync, L: Ledger>(
     rows
 }
 
-/// Lists the rows that a query of a relation keeps in a text by itself, and lets them wait. The collector is told those that waited before. After an error what is given
-/// is unknown.
+/// The same, where some wait. None wait any more.
+#[inline(never)]
+fn tell_waiting<R: Threads + Sync, L: Ledger>(
+    rt: &R,
+    alloc: Global,
+    waiting: &mut Option<Waiting<'_>>,
+    query: &Query,
+    prepared: &Prepared,
+    text: &TextOf<'_>,
+    collector: &mut Collector<'_>,
+    scratch: &mut Scratch,
+    steps: &mut Steps<L>,
+) -> Result<RowList, CountError>
+    requires text { IsTextIn text.now.registry.now text.now.segment.now text.now.number text.now.listed.now }
+    requires fits { Fits text.now.registry.now query.now }
+    requires prepared { IsPrepared text.now.segment.now query.now prepared.now }
+    requires known { Knows text.now.segment.now text.now.registry.now.ws_attr text.now.number collector.old }
+    requires waiting { IfSome waiting.old (λ w. LabelsLie w.rows (told_tokens text.now.segment.now text.now.number)) }
+    requires rows { AreKnownIn text.now.segment.now scratch.old.lists.known }
+    ensures rows { AreKnownIn text.now.segment.now scratch.new.lists.known }
+    ensures none { waiting.new ≡ None }
+    ensures only { OnlyGives collector.old collector.new }
+    ensures given { (images : Images) (of : texts.Text) (lines : Items Line) → Tells images text.now.registry.now text.now.segment.now text.now.number of
+        → MatchOption waiting.old (AreOfLines images text.now.registry.now of lines collector.old.given)
+        (λ w. AreButOne images text.now.registry.now of text.now.segment.now text.now.number lines w.relation.now w.rows collector.old.given)
+        → OnOk result (AreOfLines images text.now.registry.now of lines collector.new.given) }
+    ensures kept { IfOk result (KeptIn text.now.segment.now (text.now.number ∷ []) query.now) }
+    ensures room { (images : Images) (of : texts.Text) → Tells images text.now.registry.now text.now.segment.now text.now.number of
+        → OnOk result (¬ Over images text.now.registry.now (of ∷ []) query.now) }
+    ensures too_many { (images : Images) (of : texts.Text) → Tells images text.now.registry.now text.now.segment.now text.now.number of
+        → IsErrOf result CountError.TooManyRows → Over images text.now.registry.now (of ∷ []) query.now }
+{
+    match waiting.take() {
+        None => rows_of(alloc, query, prepared, text, scratch, steps),
+        Some(last) => {
+            let rows = tell_and_list(
+                rt, alloc, &last, query, prepared, text, collector, scratch, steps,
+            )?;
+            scratch.lists.take_back(last.rows);
+            Ok(rows)
+        }
+    }
+}
+
+/// The same, where mostly none wait.
+fn list_next<R: Threads + Sync, L: Ledger>(
+    rt: &R,
+    alloc: Global,
+    waiting: &mut Option<Waiting<'_>>,
+    query: &Query,
+    prepared: &Prepared,
+    text: &TextOf<'_>,
+    collector: &mut Collector<'_>,
+    scratch: &mut Scratch,
+    steps: &mut Steps<L>,
+) -> Result<RowList, CountError>
+    requires text { IsTextIn text.now.registry.now text.now.segment.now text.now.number text.now.listed.now }
+    requires fits { Fits text.now.registry.now query.now }
+    requires prepared { IsPrepared text.now.segment.now query.now prepared.now }
+    requires known { Knows text.now.segment.now text.now.registry.now.ws_attr text.now.number collector.old }
+    requires waiting { IfSome waiting.old (λ w. LabelsLie w.rows (told_tokens text.now.segment.now text.now.number)) }
+    requires rows { AreKnownIn text.now.segment.now scratch.old.lists.known }
+    ensures rows { AreKnownIn text.now.segment.now scratch.new.lists.known }
+    ensures none { waiting.new ≡ None }
+    ensures only { OnlyGives collector.old collector.new }
+    ensures given { (images : Images) (of : texts.Text) (lines : Items Line) → Tells images text.now.registry.now text.now.segment.now text.now.number of
+        → MatchOption waiting.old (AreOfLines images text.now.registry.now of lines collector.old.given)
+        (λ w. AreButOne images text.now.registry.now of text.now.segment.now text.now.number lines w.relation.now w.rows collector.old.given)
+        → OnOk result (AreOfLines images text.now.registry.now of lines collector.new.given) }
+    ensures kept { IfOk result (KeptIn text.now.segment.now (text.now.number ∷ []) query.now) }
+    ensures room { (images : Images) (of : texts.Text) → Tells images text.now.registry.now text.now.segment.now text.now.number of
+        → OnOk result (¬ Over images text.now.registry.now (of ∷ []) query.now) }
+    ensures too_many { (images : Images) (of : texts.Text) → Tells images text.now.registry.now text.now.segment.now text.now.number of
+        → IsErrOf result CountError.TooManyRows → Over images text.now.registry.now (of ∷ []) query.now }
+{
+    match waiting {
+        None => rows_of(alloc, query, prepared, text, scratch, steps),
+        Some(_) => tell_waiting(
+            rt, alloc, waiting, query, prepared, text, collector, scratch, steps,
+        ),
+    }
+}
+
+/// Tells the collector the rows that a query of a relation keeps in a text, or lets them wait where they are many. After an error what is given is unknown.
+fn settle<'a>(
+    relation: &'a Relation,
+    query: &Query,
+    rows: RowList,
+    text: &TextOf<'_>,
+    collector: &mut Collector<'_>,
+    waiting: &mut Option<Waiting<'a>>,
+    scratch: &mut Scratch,
+) -> Result<(), NoMemory>
+    requires text { IsTextIn text.now.registry.now text.now.segment.now text.now.number text.now.listed.now }
+    requires fits { Fits text.now.registry.now query.now }
+    requires known { Knows text.now.segment.now text.now.registry.now.ws_attr text.now.number collector.old }
+    requires none { waiting.old ≡ None }
+    requires kept { KeptIn text.now.segment.now (text.now.number ∷ []) query.now rows }
+    requires rows { AreKnownIn text.now.segment.now scratch.old.lists.known }
+    ensures rows { AreKnownIn text.now.segment.now scratch.new.lists.known }
+    ensures only { OnlyGives collector.old collector.new }
+    ensures waiting { IfSome waiting.new (λ w. LabelsLie w.rows (told_tokens text.now.segment.now text.now.number)) }
+    ensures given { (images : Images) (of : texts.Text) (lines : Items Line) → Tells images text.now.registry.now text.now.segment.now text.now.number of
+        → AreOfLines images text.now.registry.now of lines collector.old.given
+        → OnOk result (MatchOption waiting.new (AreOfLines images text.now.registry.now of (lines ++ line_of relation.now query.now ∷ []) collector.new.given)
+        (λ w. AreButOne images text.now.registry.now of text.now.segment.now text.now.number (lines ++ line_of relation.now query.now ∷ []) w.relation.now w.rows collector.new.given)) }
+{
+    labels_are_inside();
+    if rows.len() >= MANY {
+        *waiting = Some(Waiting { relation, rows });
+        return Ok(());
+    }
+    tell(relation, &rows, text, collector)?;
+    scratch.lists.take_back(rows);
+    Ok(())
+}
+
+/// Lists the rows that a query of a relation keeps in a text by itself. The collector is told those that waited before, and these, unless they are many and wait. After an
+/// error what is given is unknown.
 pub(crate) fn add_query<'a, R: Threads + Sync, L: Ledger>(
     rt: &R,
     alloc: Global,
@@ -250,20 +367,9 @@ pub(crate) fn add_query<'a, R: Threads + Sync, L: Ledger>(
     ensures too_many { (images : Images) (of : texts.Text) → Tells images text.now.registry.now text.now.segment.now text.now.number of
         → IsErrOf result CountError.TooManyRows → Over images text.now.registry.now (of ∷ []) query.now }
 {
-    labels_are_inside();
-    match waiting.take() {
-        None => {
-            let rows = rows_of(alloc, query, prepared, text, scratch, steps)?;
-            *waiting = Some(Waiting { relation, rows });
-            Ok(())
-        }
-        Some(last) => {
-            let rows = tell_and_list(
-                rt, alloc, &last, query, prepared, text, collector, scratch, steps,
-            )?;
-            scratch.lists.take_back(last.rows);
-            *waiting = Some(Waiting { relation, rows });
-            Ok(())
-        }
-    }
+    let rows = list_next(
+        rt, alloc, waiting, query, prepared, text, collector, scratch, steps,
+    )?;
+    settle(relation, query, rows, text, collector, waiting, scratch)?;
+    Ok(())
 }

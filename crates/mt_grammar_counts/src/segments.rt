@@ -16,6 +16,7 @@ ghost use Rattle.mt_grammar_counts.specs.Told.{HasNoRoom, TellAll};
 use super::error::CountError;
 use super::patterns::GrammarPatterns;
 use super::query::Scratch;
+use super::ready_queries::ReadyQueries;
 use super::text_counts::TextCounts;
 use super::texts::add_texts;
 use mt_base::{List, Registry, Steps};
@@ -26,6 +27,7 @@ use mt_grammar::Grammar;
 use mt_grammar_laws::grammar_queries_are_in_order;
 use mt_instances::Collector;
 use mt_pattern::PatternShop;
+use mt_prepare::KnownSpans;
 use mt_segment::Segment;
 use mt_triples::Triples;
 use std::alloc::Global;
@@ -35,9 +37,14 @@ use std::thread::Threads;
 /// So many rows of a segment at most are kept for the queries that ask for the same. A row has a bit for each token of the segment.
 const MOST_ROWS: usize = 32;
 
+/// A segment with more tokens is large.
+const SMALL: u32 = 512;
+
 /// Lists that are filled again for each text and query.
 #[derive(Drop)]
 pub(crate) struct Buffers {
+    spans: KnownSpans,
+    ready: ReadyQueries,
     listed: List<u32>,
     scratch: Scratch,
 }
@@ -46,6 +53,8 @@ impl Buffers {
     /// Empty ones. They take no memory.
     pub(crate) fn new(alloc: Global) -> Self {
         Buffers {
+            spans: KnownSpans::new(alloc),
+            ready: ReadyQueries::new(alloc),
             listed: List::new(alloc),
             scratch: Scratch {
                 rooms: List::new(alloc),
@@ -57,6 +66,14 @@ impl Buffers {
     /// Whether they are so small that their memory may well be kept for other texts.
     pub(crate) fn are_small(&self) -> bool {
         self.scratch.lists.is_small()
+    }
+
+    /// Lets the queries go that are ready for a segment, where it is large: they have bits for all its values, and all its spans.
+    fn let_queries_go_where_large(&mut self, alloc: Global, segment: &Segment) {
+        if segment.tokens() > SMALL {
+            self.spans = KnownSpans::new(alloc);
+            self.ready = ReadyQueries::new(alloc);
+        }
     }
 }
 
@@ -88,14 +105,22 @@ pub(crate) fn add_segment<'a, P: PatternShop, R: Threads + Sync, L: Ledger>(
     grammar_queries_are_in_order();
     let _valid = segment.texts();
     collector.turn_to(segment.lexicon(registry.ws_attr()));
-    let prepared = patterns.prepare_all(alloc, grammar, segment, shop, steps)?;
+    patterns.prepare_all(
+        alloc,
+        grammar,
+        segment,
+        &mut buffers.spans,
+        &mut buffers.ready,
+        shop,
+        steps,
+    )?;
     buffers.scratch.lists.turn(alloc, MOST_ROWS);
     let counted = add_texts(
         rt,
         alloc,
         registry,
         grammar,
-        prepared.as_slice(),
+        buffers.ready.as_slice(),
         segment,
         numbers,
         collector,
@@ -103,7 +128,7 @@ pub(crate) fn add_segment<'a, P: PatternShop, R: Threads + Sync, L: Ledger>(
         &mut buffers.scratch,
         steps,
     );
-    patterns.take_back(prepared);
+    buffers.let_queries_go_where_large(alloc, segment);
     counted
 }
 
@@ -149,7 +174,52 @@ pub(crate) fn count_segment<P: PatternShop, R: Threads + Sync, L: Ledger>(
     Ok(())
 }
 
-/// Counts the texts of a corpus, one segment after another, and adds them to the counts over no texts.
+/// Counts the texts of a corpus, one segment after another, each in the memory of the one before, and adds them to the counts over no texts.
+fn add_each<P: PatternShop, R: Threads + Sync, L: Ledger>(
+    rt: &R,
+    alloc: Global,
+    corpus: &Corpus,
+    grammar: &Grammar,
+    patterns: &mut GrammarPatterns<P>,
+    counts: &mut TextCounts,
+    triples: &mut Triples,
+    shop: &mut P,
+    steps: &mut Steps<L>,
+) -> Result<(), CountError>
+    requires grammar { ValidGrammar corpus.now.registry grammar.now }
+    requires patterns { patterns.old ≡ patterns_of grammar.now }
+    requires none { (images : Images) → AreCountsOf images corpus.now.registry grammar.now [] triples.old }
+    ensures counts { (images : Images) → AreImagesBy images corpus.now.taken → OnOk result (AreCountsOf images corpus.now.registry grammar.now (corpus_of corpus.now.groups) triples.new) }
+    ensures room { (images : Images) → AreImagesBy images corpus.now.taken → OnOk result (HasRoom images corpus.now.registry grammar.now (corpus_of corpus.now.groups)) }
+    ensures too_many { (images : Images) → AreImagesBy images corpus.now.taken → IsErrOf result CountError.TooManyRows → HasNoRoom images corpus.now.registry grammar.now (corpus_of corpus.now.groups) }
+    ensures patterns { patterns.new ≡ patterns.old }
+    ensures shop { P.refused shop.new ≡ P.refused shop.old }
+{
+    groups_are_told();
+    live_texts_are_numbered();
+    let registry = corpus.registry();
+    let (segments, live) = corpus.held();
+    for i in 0..segments.len() {
+        let segment = segments.get(i);
+        let numbers = live.get(i);
+        count_segment(
+            rt,
+            alloc,
+            registry,
+            grammar,
+            patterns,
+            segment,
+            numbers.as_slice(),
+            counts,
+            shop,
+            steps,
+        )?;
+        triples.add(alloc, counts.noted())?;
+    }
+    Ok(())
+}
+
+/// Counts the texts of a corpus, and adds them to the counts over no texts.
 pub(crate) fn add_segments<P: PatternShop, R: Threads + Sync, L: Ledger>(
     rt: &R,
     alloc: Global,
@@ -169,27 +239,16 @@ pub(crate) fn add_segments<P: PatternShop, R: Threads + Sync, L: Ledger>(
     ensures patterns { patterns.new ≡ patterns.old }
     ensures shop { P.refused shop.new ≡ P.refused shop.old }
 {
-    groups_are_told();
-    live_texts_are_numbered();
-    let registry = corpus.registry();
-    let (segments, live) = corpus.held();
     let mut counts = TextCounts::new(alloc);
-    for i in 0..segments.len() {
-        let segment = segments.get(i);
-        let numbers = live.get(i);
-        count_segment(
-            rt,
-            alloc,
-            registry,
-            grammar,
-            patterns,
-            segment,
-            numbers.as_slice(),
-            &mut counts,
-            shop,
-            steps,
-        )?;
-        triples.add(alloc, counts.noted())?;
-    }
-    Ok(())
+    add_each(
+        rt,
+        alloc,
+        corpus,
+        grammar,
+        patterns,
+        &mut counts,
+        triples,
+        shop,
+        steps,
+    )
 }

@@ -1,7 +1,7 @@
 -- Expressions that are made ready part by part.
-use Rattle.std.proofs.Common.{ℕ, ◌≡◌, List, [], ◌∷◌, ◌++◌, sym, subst, append_assoc, Result, Ok, Err, OnOk}
+use Rattle.std.proofs.Common.{ℕ, ◌≡◌, ◌<◌, ◌+◌, List, [], ◌∷◌, ◌++◌, length, take, set, sym, subst, append_assoc, Result, Ok, Err, OnOk}
 use Rattle.std.specs.List.{AllZip}
-use Rattle.std.proofs.lemmas.List.{append-nil}
+use Rattle.std.proofs.lemmas.List.{append-nil, take_more_set}
 use Rattle.std.proofs.lemmas.List.Elements.{All-push, All-nil}
 use Rattle.std.proofs.lemmas.Slice.Zip.{all_zipped_more}
 use Rattle.mt_text_spec.specs.Texts.{Span}
@@ -12,7 +12,7 @@ use Rattle.mt_segment_spec.specs.Tables.{Tables}
 use Rattle.mt_eval_spec.specs.RowsIn.{heads, operands}
 use Rattle.mt_prepare.specs.declared.prepared.PreparedExpr.{PreparedExpr}
 use Rattle.mt_prepare.specs.declared.resolved.Resolved.{Resolved}
-use Rattle.mt_prepare.specs.Prepared.{AddsReady, HasReady, IsByNumber, IsReady, TagSpans}
+use Rattle.mt_prepare.specs.Prepared.{AddsExprs, AddsReady, HasReady, IsByNumber, IsReady, TagSpans}
 use Rattle.mt_prepare.specs.Resolved.{AreSpansOf, Resolves}
 use Rattle.mt_prepare.specs.TestRows.{HasAttrs}
 
@@ -59,16 +59,21 @@ all_ready tables expr old new no_tests no_tags h = record { tests_are = has.test
     has : HasReady tables (token_tests expr) (tags expr) new
     has = h [] [] none
 
--- ## Operands
+pub all_added : {Y E : Type 0} (r : Result Y E) (tables : Tables) (expr : q.Expr) (old new : PreparedExpr) → old.tests ≡ [] → old.tags ≡ [] → OnOk r (AddsReady tables (token_tests expr) (tags expr) old new) → OnOk r (IsReady tables expr new)
+all_added (Ok y) tables expr old new no_tests no_tags h = all_ready tables expr old new no_tests no_tags h
+all_added (Err e) tables expr old new no_tests no_tags h = tt
 
-pub operands_on : {Y E X A : Type 0} (r : Result Y E) (R : A → X → Type 0) (head : A) (own others : List A) (old pushed middle new : List X) (x : X) → R head x → pushed ≡ old ++ x ∷ [] →
-    ((before : List A) → AllZip R before pushed → AllZip R (before ++ own) middle) → OnOk r ((before : List A) → AllZip R before middle → AllZip R (before ++ others) new) →
-    OnOk r ((before : List A) → AllZip R before old → AllZip R (before ++ (head ∷ own ++ others)) new)
-operands_on (Ok y) R head own others old pushed middle new x here e g h = λ before z.
-    subst (λ (l : List _). AllZip R l new) (append_assoc before (head ∷ []) (own ++ others))
-    (subst (λ (l : List _). AllZip R l new) (append_assoc (before ++ head ∷ []) own others) (h ((before ++ head ∷ []) ++ own) (g (before ++ head ∷ []) (rw e (all_zipped_more R before old head x z here)))))
-operands_on (Err e) R head own others old pushed middle new x here is g h = tt
+-- ## Expressions one after another
 
-pub all_prepared : (tables : Tables) (query : q.Query) (none pushed all : List PreparedExpr) (head : PreparedExpr) → none ≡ [] → pushed ≡ none ++ head ∷ [] → IsReady tables query.head head →
-    ((before : List q.Expr) → AllZip (IsReady tables) before pushed → AllZip (IsReady tables) (before ++ operands query.filters) all) → AllZip (IsReady tables) (heads query) all
-all_prepared tables query none pushed all head n p here h = h (query.head ∷ []) (rw (p, n) (here, tt))
+pub one_added : (tables : Tables) (expr : q.Expr) (here : List PreparedExpr) (count : ℕ) (ready : PreparedExpr) → count < length here → IsReady tables expr ready → AddsExprs tables (expr ∷ []) (take count here) (take (count + 1) (set here count ready))
+one_added tables expr here count ready within is = λ before z. rw (take_more_set here count ready within) (all_zipped_more (IsReady tables) before (take count here) expr ready z is)
+
+pub operands_on : {Y E : Type 0} (r : Result Y E) (tables : Tables) (head : q.Expr) (own others : List q.Expr) (old pushed middle new : List PreparedExpr) → AddsExprs tables (head ∷ []) old pushed → AddsExprs tables own pushed middle → OnOk r (AddsExprs tables others middle new) →
+    OnOk r (AddsExprs tables (head ∷ own ++ others) old new)
+operands_on (Ok y) tables head own others old pushed middle new e g h = λ before z.
+    subst (λ (l : List q.Expr). AllZip (IsReady tables) l new) (append_assoc before (head ∷ []) (own ++ others))
+    (subst (λ (l : List q.Expr). AllZip (IsReady tables) l new) (append_assoc (before ++ head ∷ []) own others) (h ((before ++ head ∷ []) ++ own) (g (before ++ head ∷ []) (e before z))))
+operands_on (Err e) tables head own others old pushed middle new is g h = tt
+
+pub all_prepared : (tables : Tables) (query : q.Query) (none pushed all : List PreparedExpr) → none ≡ [] → AddsExprs tables (query.head ∷ []) none pushed → AddsExprs tables (operands query.filters) pushed all → AllZip (IsReady tables) (heads query) all
+all_prepared tables query none pushed all n g h = h (query.head ∷ []) (g [] (rw n tt))

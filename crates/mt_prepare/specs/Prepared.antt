@@ -53,3 +53,7 @@ pub record HasReady (tables : Tables) (tests : List q.Test) (known : List conten
 -- these were added to whatever was ready
 abbrev pub AddsReady : Tables → List q.Test → List contents.Tag → (old new : PreparedExpr) → Type 0
 AddsReady tables tests known old new = (before : List q.Test) (earlier : List contents.Tag) → HasReady tables before earlier old → HasReady tables (before ++ tests) (earlier ++ known) new
+
+-- these expressions were made ready behind whatever were ready
+abbrev pub AddsExprs : Tables → List q.Expr → (old new : List PreparedExpr) → Type 0
+AddsExprs tables exprs old new = (before : List q.Expr) → AllZip (IsReady tables) before old → AllZip (IsReady tables) (before ++ exprs) new

@@ -1,13 +1,15 @@
 //! Spans of one segment that were listed before, so that they need not be listed again.
 
-ghost use Rattle.std.specs.Prelude.{◌≡◌, IfOk, IfSome};
+ghost use Rattle.std.specs.Prelude.{◌≡◌, [], IfOk, IfSome};
 ghost use Rattle.mt_text_spec.specs.Queries as q;
 ghost use Rattle.mt_segment_spec.specs.Tables.{Tables};
 ghost use Rattle.mt_prepare.specs.KnownSpans.{AreSpansKnown};
 ghost use Rattle.mt_prepare.specs.Resolved.{AreSpansOf};
 
+use crate::prepared::PreparedExpr;
 use crate::shared_spans::SharedSpans;
-use mt_base::NoMemory;
+use crate::spare::Spare;
+use mt_base::{NoMemory, Span};
 use std::alloc::Global;
 
 /// The spans of all instances of a kind of structure.
@@ -17,10 +19,12 @@ struct KindSpans {
     spans: SharedSpans,
 }
 
-/// Spans of one segment that were listed before: those of all instances of some kinds of structures, each kind once.
+/// Spans of one segment that were listed before: those of all instances of some kinds of structures, each kind once. Lists of spans that are done with wait here for the
+/// next segment.
 #[derive(Drop)]
 pub struct KnownSpans {
     kinds: Vec<KindSpans>,
+    spare: Spare,
 }
 
 impl KnownSpans {
@@ -30,7 +34,32 @@ impl KnownSpans {
     {
         KnownSpans {
             kinds: Vec::new(alloc),
+            spare: Spare::new(alloc),
         }
+    }
+
+    /// Turns to another segment: what is known of the one before goes, and its memory is kept.
+    pub fn turn(&mut self)
+        ensures known { (tables : Tables) → AreSpansKnown tables self.new }
+    {
+        self.kinds.clear();
+    }
+
+    /// A list without spans, with room for so many.
+    pub(crate) fn spans(&mut self, alloc: Global, count: usize) -> Result<Vec<Span>, NoMemory>
+        ensures none { IfOk result (λ spans. spans.items ≡ []) }
+        ensures known { (tables : Tables) → AreSpansKnown tables self.old → AreSpansKnown tables self.new }
+    {
+        self.spare.spans(alloc, count)
+    }
+
+    /// Takes the tests and the tags out of an expression that is done with. Its lists keep their memory, and that of the spans waits here.
+    pub(crate) fn empty(&mut self, alloc: Global, expr: &mut PreparedExpr)
+        ensures known { (tables : Tables) → AreSpansKnown tables self.old → AreSpansKnown tables self.new }
+        ensures tests { expr.new.tests ≡ [] }
+        ensures tags { expr.new.tags ≡ [] }
+    {
+        self.spare.empty(alloc, expr);
     }
 
     /// The spans of a kind, where they are kept.

@@ -2,10 +2,12 @@
 #![tactic(auto)]
 
 mod judges;
+mod known_pattern;
 mod known_rows;
 mod known_spans;
 mod patterns;
 mod prepared;
+mod ready_exprs;
 mod resolved;
 mod shared_spans;
 mod sighted;

@@ -7,10 +7,8 @@ ghost use Rattle.mt_pattern_spec.specs.Patterns.{MarksAccepted};
 ghost use Rattle.mt_eval_spec.specs.Asked.{test_patterns, expr_patterns, filters_patterns, query_patterns};
 ghost use Rattle.mt_prepare.specs.Built.{IsWhole, Blames};
 
-use super::prepared::Prepared;
-use super::shared_spans::SharedSpans;
-use super::spare::Spare;
-use mt_base::{List, NoMemory, Span, Value};
+use super::known_pattern::KnownPattern;
+use mt_base::{NoMemory, Value};
 use mt_cql::{Expr, Filters, Query, Test};
 use mt_lexicon::Lexicon;
 use mt_pattern::{IdSet, IdsError, PatternShop, WholePattern};
@@ -42,8 +40,7 @@ impl From<NoMemory> for PatternError {
 /// The patterns of a query in the order in which it asks for them. Contracts see them as their texts.
 #[derive(Drop)]
 pub struct Patterns<P: PatternShop> {
-    built: Vec<WholePattern<P>>,
-    spare: Spare,
+    built: Vec<KnownPattern<P>>,
 }
 
 impl<P: PatternShop> Model for Patterns<P> {
@@ -65,42 +62,14 @@ impl<P: PatternShop> Patterns<P> {
     {
         let mut patterns = Patterns {
             built: Vec::new(alloc),
-            spare: Spare::new(alloc),
         };
         patterns.add_expr(alloc, query.head(), shop)?;
         patterns.add_filters(alloc, query.filters(), shop)?;
         Ok(patterns)
     }
 
-    /// Takes a query back that was made ready, so that the next one takes its memory. Lists of large texts are let go.
-    pub fn take_back(&mut self, prepared: Prepared)
-        ensures { self.new ≡ self.old }
-    {
-        self.spare.take_back(prepared);
-    }
-
-    /// A list without spans, with room for so many.
-    pub(crate) fn spans(&mut self, alloc: Global, count: usize) -> Result<Vec<Span>, NoMemory>
-        ensures none { IfOk result (λ spans. spans.items ≡ []) }
-        ensures texts { self.new ≡ self.old }
-    {
-        self.spare.spans(alloc, count)
-    }
-
-    /// A list for the spans of so many tags.
-    pub(crate) fn tags(
-        &mut self,
-        alloc: Global,
-        count: usize,
-    ) -> Result<List<SharedSpans>, NoMemory>
-        ensures none { IfOk result (λ tags. tags ≡ []) }
-        ensures texts { self.new ≡ self.old }
-    {
-        self.spare.tags(alloc, count)
-    }
-
     /// The pattern with this number, counted from 0.
-    pub(crate) fn at(&self, i: usize) -> &WholePattern<P>
+    pub(crate) fn at(&self, i: usize) -> &KnownPattern<P>
         requires { i < length self.now }
         ensures pattern { result.now ≡ slice_index_or self.now i [] }
         ensures few { i + 1 < 2 ^ 64 }
@@ -238,7 +207,7 @@ impl<P: PatternShop> Patterns<P> {
         }
         let k = self.built.len() as u32 + 1;
         match WholePattern::build(alloc, text.as_str(), shop) {
-            Ok(pattern) => self.push(pattern),
+            Ok(pattern) => self.push(KnownPattern::new(pattern)),
             Err(IdsError::Syntax) => Err(PatternError::Syntax(k)),
             Err(IdsError::Refused) => Err(PatternError::Refused(k)),
             Err(IdsError::NoMemory) => Err(PatternError::NoMemory),
@@ -246,7 +215,7 @@ impl<P: PatternShop> Patterns<P> {
     }
 
     /// Adds a pattern that is built.
-    fn push(&mut self, pattern: WholePattern<P>) -> Result<(), PatternError>
+    fn push(&mut self, pattern: KnownPattern<P>) -> Result<(), PatternError>
         ensures texts { OnOk result (self.new ≡ self.old ++ pattern ∷ []) }
         ensures starved { IfErr result (λ error. error ≡ PatternError.NoMemory) }
     {

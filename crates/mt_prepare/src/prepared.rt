@@ -13,10 +13,11 @@ ghost use Rattle.mt_eval_spec.specs.RowsIn.{operands};
 ghost use Rattle.mt_prepare.specs.Asks.{ExprStands, FiltersName, FiltersStand, HasAttr, HasKind, Names, NamesOnly, TestStands};
 ghost use Rattle.mt_prepare.specs.Built.{IsWhole, Blames};
 ghost use Rattle.mt_prepare.specs.KnownSpans.{AreSpansKnown};
-ghost use Rattle.mt_prepare.specs.Prepared.{AddsReady, IsReady, IsPrepared};
+ghost use Rattle.mt_prepare.specs.Prepared.{AddsExprs, AddsReady, IsReady, IsPrepared};
 
 use super::known_spans::KnownSpans;
 use super::patterns::{PatternError, Patterns};
+use super::ready_exprs::ReadyExprs;
 use super::resolved::Resolved;
 use super::shared_spans::SharedSpans;
 use super::tags::{spans_of_kind, spans_of_tag};
@@ -26,6 +27,7 @@ use mt_cql::{Expr, Filters, Query, Test};
 use mt_pattern::PatternShop;
 use mt_segment::Segment;
 use std::alloc::Global;
+use std::mem::replace;
 use std::sync::ledger::Ledger;
 
 /// An expression made ready for a segment: its tests of tokens, and for each of its tags the spans in the segment, each from left to right.
@@ -35,10 +37,29 @@ pub struct PreparedExpr {
     pub tags: List<SharedSpans>,
 }
 
+impl PreparedExpr {
+    /// Neither tests nor tags. It takes no memory.
+    pub(crate) fn new(alloc: Global) -> Self {
+        PreparedExpr {
+            tests: List::new(alloc),
+            tags: List::new(alloc),
+        }
+    }
+}
+
 /// A query made ready for a segment: its head, and then the operands of its filters, each before those of its own filters.
 #[derive(Drop)]
 pub struct Prepared {
     pub exprs: List<PreparedExpr>,
+}
+
+impl Prepared {
+    /// No query yet. It takes no memory.
+    pub fn new(alloc: Global) -> Self {
+        Prepared {
+            exprs: List::new(alloc),
+        }
+    }
 }
 
 /// Makes a query ready for a segment: builds its patterns, up to the first one that is not built, and asks them. To find the value of an `==` test takes a step for each
@@ -87,9 +108,35 @@ impl<P: PatternShop> Patterns<P> {
         ensures rises { steps.old ≤ steps.new }
         ensures finds { IsPlain query.now → FindEach segment.now (token_tests query.now.head) (steps.new - steps.old) }
     {
+        let mut prepared = Prepared::new(alloc);
+        self.prepare_again(alloc, query, segment, &mut prepared, known, shop, steps)?;
+        Ok(prepared)
+    }
+
+    /// The same, in the memory of a query that was made ready for another segment, and is done with.
+    pub fn prepare_again<L: Ledger>(
+        &mut self,
+        alloc: Global,
+        query: &Query,
+        segment: &Segment,
+        prepared: &mut Prepared,
+        known: &mut KnownSpans,
+        shop: &mut P,
+        steps: &mut Steps<L>,
+    ) -> Result<(), NoMemory>
+        requires query { IsFor segment.now query.now }
+        requires patterns { self.old ≡ query_patterns query.now }
+        requires known { AreSpansKnown segment.now known.old }
+        ensures known { AreSpansKnown segment.now known.new }
+        ensures prepared { OnOk result (IsPrepared segment.now query.now prepared.new) }
+        ensures texts { self.new ≡ self.old }
+        ensures kept { P.refused shop.new ≡ P.refused shop.old }
+        ensures rises { steps.old ≤ steps.new }
+        ensures finds { IsPlain query.now → FindEach segment.now (token_tests query.now.head) (steps.new - steps.old) }
+    {
         let mut asked = 0;
-        let mut exprs = List::with_capacity(alloc, expr_count(query))?;
-        let head = ready(
+        let mut exprs = ReadyExprs::over(replace(&mut prepared.exprs, List::new(alloc)));
+        exprs.add(
             alloc,
             segment,
             query.head(),
@@ -99,7 +146,6 @@ impl<P: PatternShop> Patterns<P> {
             shop,
             steps,
         )?;
-        exprs.push(head)?;
         add_operands(
             alloc,
             segment,
@@ -111,7 +157,8 @@ impl<P: PatternShop> Patterns<P> {
             steps,
             &mut exprs,
         )?;
-        Ok(Prepared { exprs })
+        prepared.exprs = exprs.into_list();
+        Ok(())
     }
 }
 
@@ -125,13 +172,13 @@ fn add_operands<P: PatternShop, L: Ledger>(
     known: &mut KnownSpans,
     shop: &mut P,
     steps: &mut Steps<L>,
-    exprs: &mut List<PreparedExpr>,
+    exprs: &mut ReadyExprs,
 ) -> Result<(), NoMemory>
     requires known { FiltersName (HasAttr segment.now) (HasKind segment.now) (filters_shape filters.now) }
     requires stands { FiltersStand patterns.old asked.old (filters_shape filters.now) }
     requires spans { AreSpansKnown segment.now known.old }
     ensures spans { AreSpansKnown segment.now known.new }
-    ensures ready { OnOk result ((before : Items q.Expr) → AllZip (IsReady segment.now) before exprs.old → AllZip (IsReady segment.now) (before ++ operands (filters_shape filters.now)) exprs.new) }
+    ensures ready { OnOk result (AddsExprs segment.now (operands (filters_shape filters.now)) exprs.old exprs.new) }
     ensures asked { OnOk result (asked.new ≡ asked.old + length (filters_patterns (filters_shape filters.now))) }
     ensures texts { patterns.new ≡ patterns.old }
     ensures kept { P.refused shop.new ≡ P.refused shop.old }
@@ -141,7 +188,7 @@ fn add_operands<P: PatternShop, L: Ledger>(
     match filters {
         Filters::End => Ok(()),
         Filters::More(filter, others) => {
-            let head = ready(
+            exprs.add(
                 alloc,
                 segment,
                 &filter.head,
@@ -151,7 +198,6 @@ fn add_operands<P: PatternShop, L: Ledger>(
                 shop,
                 steps,
             )?;
-            exprs.push(head)?;
             add_operands(
                 alloc,
                 segment,
@@ -170,58 +216,8 @@ fn add_operands<P: PatternShop, L: Ledger>(
     }
 }
 
-/// How many expressions a query has: its head and its operands.
-fn expr_count(query: &Query) -> usize {
-    operand_count(query.filters()).saturating_add(1)
-}
-
-/// How many operands filters have, so that there is room for just these at once.
-fn operand_count(filters: &Filters) -> usize {
-    match filters {
-        Filters::End => 0,
-        Filters::More(filter, others) => {
-            let own = operand_count(&filter.filters).saturating_add(1);
-            own.saturating_add(operand_count(others))
-        }
-    }
-}
-
-/// How many tests of tokens an expression has, so that there is room for just these at once.
-fn test_count(expr: &Expr) -> usize {
-    match expr {
-        Expr::Token { label: _, test: _ } => 1,
-        Expr::Begin { kind: _, test: _ } => 0,
-        Expr::End { kind: _ } => 0,
-        Expr::Whole { kind: _, test: _ } => 0,
-        Expr::Seq(left, right) => test_count(left).saturating_add(test_count(right)),
-        Expr::Choice(left, right) => test_count(left).saturating_add(test_count(right)),
-        Expr::Repeat {
-            inner,
-            least: _,
-            most: _,
-        } => test_count(inner),
-    }
-}
-
-/// How many tags an expression has, so that there is room for just these at once.
-fn tag_count(expr: &Expr) -> usize {
-    match expr {
-        Expr::Token { label: _, test: _ } => 0,
-        Expr::Begin { kind: _, test: _ } => 1,
-        Expr::End { kind: _ } => 1,
-        Expr::Whole { kind: _, test: _ } => 1,
-        Expr::Seq(left, right) => tag_count(left).saturating_add(tag_count(right)),
-        Expr::Choice(left, right) => tag_count(left).saturating_add(tag_count(right)),
-        Expr::Repeat {
-            inner,
-            least: _,
-            most: _,
-        } => tag_count(inner),
-    }
-}
-
-/// Makes an expression ready. Its patterns are the next ones of the query, behind those that were asked.
-fn ready<P: PatternShop, L: Ledger>(
+/// Makes an expression ready in the memory of another one. Its patterns are the next ones of the query, behind those that were asked.
+pub(crate) fn make_ready<P: PatternShop, L: Ledger>(
     alloc: Global,
     segment: &Segment,
     expr: &Expr,
@@ -230,26 +226,23 @@ fn ready<P: PatternShop, L: Ledger>(
     known: &mut KnownSpans,
     shop: &mut P,
     steps: &mut Steps<L>,
-) -> Result<PreparedExpr, NoMemory>
+    ready: &mut PreparedExpr,
+) -> Result<(), NoMemory>
     requires known { Names (HasAttr segment.now) (HasKind segment.now) (shape expr.now) }
     requires stands { ExprStands patterns.old asked.old (shape expr.now) }
     requires spans { AreSpansKnown segment.now known.old }
     ensures spans { AreSpansKnown segment.now known.new }
-    ensures ready { IfOk result (λ ready. IsReady segment.now (shape expr.now) ready) }
+    ensures ready { OnOk result (IsReady segment.now (shape expr.now) ready.new) }
     ensures asked { OnOk result (asked.new ≡ asked.old + length (expr_patterns (shape expr.now))) }
     ensures texts { patterns.new ≡ patterns.old }
     ensures kept { P.refused shop.new ≡ P.refused shop.old }
     ensures rises { steps.old ≤ steps.new }
     ensures finds { AreEquals (shape expr.now) → FindEach segment.now (token_tests (shape expr.now)) (steps.new - steps.old) }
 {
-    let mut ready = PreparedExpr {
-        tests: List::with_capacity(alloc, test_count(expr))?,
-        tags: patterns.tags(alloc, tag_count(expr))?,
-    };
+    known.empty(alloc, ready);
     add_expr(
-        alloc, segment, expr, patterns, asked, known, shop, steps, &mut ready,
-    )?;
-    Ok(ready)
+        alloc, segment, expr, patterns, asked, known, shop, steps, ready,
+    )
 }
 
 /// Adds the tests and the tags of an expression.
@@ -284,7 +277,7 @@ fn add_expr<P: PatternShop, L: Ledger>(
                 alloc, segment, *kind, test, patterns, asked, known, shop, steps, ready,
             )
         }
-        Expr::End { kind } => add_end(alloc, segment, *kind, patterns, known, steps, ready),
+        Expr::End { kind } => add_end(alloc, segment, *kind, known, steps, ready),
         Expr::Whole { kind, test } => {
             add_tag(
                 alloc, segment, *kind, test, patterns, asked, known, shop, steps, ready,
@@ -370,11 +363,10 @@ fn add_tag<P: PatternShop, L: Ledger>(
 }
 
 /// Adds the spans of a closing tag.
-fn add_end<P: PatternShop, L: Ledger>(
+fn add_end<L: Ledger>(
     alloc: Global,
     segment: &Segment,
     kind: u16,
-    patterns: &mut Patterns<P>,
     known: &mut KnownSpans,
     steps: &mut Steps<L>,
     ready: &mut PreparedExpr,
@@ -383,9 +375,8 @@ fn add_end<P: PatternShop, L: Ledger>(
     requires spans { AreSpansKnown segment.now known.old }
     ensures spans { AreSpansKnown segment.now known.new }
     ensures ready { OnOk result ((place : TagPlace) → AddsReady segment.now [] (record { place = place; kind = kind; test = q.Any } ∷ []) ready.old ready.new) }
-    ensures texts { patterns.new ≡ patterns.old }
     ensures rises { steps.old ≤ steps.new }
 {
-    let spans = spans_of_kind(alloc, segment, kind, patterns, known, steps)?;
+    let spans = spans_of_kind(alloc, segment, kind, known, steps)?;
     ready.tags.push(spans)
 }

@@ -47,9 +47,11 @@ pub(crate) fn spans_of_tag<P: PatternShop, L: Ledger>(
     ensures rises { steps.old ≤ steps.new }
 {
     match test {
-        Test::Any => spans_of_kind(alloc, segment, kind, patterns, known, steps),
+        Test::Any => spans_of_kind(alloc, segment, kind, known, steps),
         _ => {
-            let spans = spans_judged(alloc, segment, kind, test, patterns, asked, shop, steps)?;
+            let spans = spans_judged(
+                alloc, segment, kind, test, patterns, asked, known, shop, steps,
+            )?;
             SharedSpans::new(alloc, spans)
         }
     }
@@ -63,11 +65,14 @@ fn spans_judged<P: PatternShop, L: Ledger>(
     test: &Test,
     patterns: &mut Patterns<P>,
     asked: &mut usize,
+    known: &mut KnownSpans,
     shop: &mut P,
     steps: &mut Steps<L>,
 ) -> Result<List<Span>, NoMemory>
     requires known { HasKind segment.now kind }
     requires stands { TestStands patterns.old asked.old (test_shape test.now) }
+    requires spans { AreSpansKnown segment.now known.old }
+    ensures listed { AreSpansKnown segment.now known.new }
     ensures spans { IfOk result (λ spans. AreSpansOf segment.now (record { kind = kind; test = test_shape test.now }) spans) }
     ensures asked { OnOk result (asked.new ≡ asked.old + length (test_patterns (test_shape test.now))) }
     ensures texts { patterns.new ≡ patterns.old }
@@ -75,16 +80,15 @@ fn spans_judged<P: PatternShop, L: Ledger>(
     ensures rises { steps.old ≤ steps.new }
 {
     let judge = judge_of(alloc, segment, kind, test, patterns, asked, shop)?;
-    let spans = patterns.spans(alloc, 0)?;
+    let spans = known.spans(alloc, 0)?;
     spans_of(spans, segment, kind, &judge, steps)
 }
 
 /// The spans of all instances of a kind in a segment. Those that are known are not listed again.
-pub(crate) fn spans_of_kind<P: PatternShop, L: Ledger>(
+pub(crate) fn spans_of_kind<L: Ledger>(
     alloc: Global,
     segment: &Segment,
     kind: u16,
-    patterns: &mut Patterns<P>,
     known: &mut KnownSpans,
     steps: &mut Steps<L>,
 ) -> Result<SharedSpans, NoMemory>
@@ -92,32 +96,32 @@ pub(crate) fn spans_of_kind<P: PatternShop, L: Ledger>(
     requires spans { AreSpansKnown segment.now known.old }
     ensures listed { AreSpansKnown segment.now known.new }
     ensures spans { IfOk result (λ spans. AreSpansOf segment.now (record { kind = kind; test = q.Any }) spans) }
-    ensures texts { patterns.new ≡ patterns.old }
     ensures rises { steps.old ≤ steps.new }
 {
     if let Some(spans) = known.find(kind) {
         return spans.share();
     }
-    let spans = list_kind(alloc, segment, kind, patterns, steps)?;
+    let spans = list_kind(alloc, segment, kind, known, steps)?;
     let shared = SharedSpans::new(alloc, spans)?;
     known.keep(kind, &shared);
     Ok(shared)
 }
 
 /// Lists the spans of all instances of a kind in a segment.
-fn list_kind<P: PatternShop, L: Ledger>(
+fn list_kind<L: Ledger>(
     alloc: Global,
     segment: &Segment,
     kind: u16,
-    patterns: &mut Patterns<P>,
+    known: &mut KnownSpans,
     steps: &mut Steps<L>,
 ) -> Result<List<Span>, NoMemory>
-    requires { HasKind segment.now kind }
+    requires known { HasKind segment.now kind }
+    requires spans { AreSpansKnown segment.now known.old }
+    ensures listed { AreSpansKnown segment.now known.new }
     ensures spans { IfOk result (λ spans. AreSpansOf segment.now (record { kind = kind; test = q.Any }) spans) }
-    ensures texts { patterns.new ≡ patterns.old }
     ensures rises { steps.old ≤ steps.new }
 {
-    let spans = patterns.spans(alloc, segment.structs(kind).len())?;
+    let spans = known.spans(alloc, segment.structs(kind).len())?;
     spans_of(spans, segment, kind, &Judge::Any, steps)
 }
 

@@ -12,11 +12,12 @@ ghost use Rattle.mt_prepare.specs.Prepared.{IsByNumber};
 ghost use Rattle.mt_prepare.specs.Resolved.{Resolves};
 ghost use Rattle.mt_prepare.specs.TestRows.{HasAttrs};
 
+use super::known_pattern::KnownPattern;
 use super::patterns::Patterns;
 use super::resolved::Resolved;
 use mt_base::{NoMemory, Steps, Value};
 use mt_cql::Test;
-use mt_pattern::{IdSet, PatternShop, WholePattern};
+use mt_pattern::{IdSet, PatternShop};
 use mt_segment::Segment;
 use mt_segment_laws::tables_are_whole;
 use std::alloc::Global;
@@ -25,7 +26,8 @@ use std::sync::ledger::Ledger;
 /// In a segment of so few tokens each value is looked for by its posting list, however many tokens have it.
 const FEW_TOKENS: u32 = 256;
 
-/// A test of tokens in a segment. Its patterns are the next ones of the query, behind those that were asked.
+/// A test of tokens in a segment. Its patterns are the next ones of the query, behind those that were asked. Mostly a test has no parts, and then little is put on the stack
+/// for it.
 pub(crate) fn resolved_test<P: PatternShop, L: Ledger>(
     alloc: Global,
     segment: &Segment,
@@ -54,18 +56,52 @@ pub(crate) fn resolved_test<P: PatternShop, L: Ledger>(
         Test::Literal { attr, text, not } => {
             Ok(resolved_literal(segment, *attr, text, *not, steps))
         }
+        _ => resolved_with_parts(alloc, segment, test, patterns, asked, shop, steps),
+    }
+}
+
+/// A test that may have parts, in a segment. Its patterns are the next ones of the query, behind those that were asked.
+#[inline(never)]
+fn resolved_with_parts<P: PatternShop, L: Ledger>(
+    alloc: Global,
+    segment: &Segment,
+    test: &Test,
+    patterns: &mut Patterns<P>,
+    asked: &mut usize,
+    shop: &mut P,
+    steps: &mut Steps<L>,
+) -> Result<Resolved, NoMemory>
+    requires known { NamesOnly (HasAttr segment.now) (test_shape test.now) }
+    requires stands { TestStands patterns.old asked.old (test_shape test.now) }
+    ensures resolves { IfOk result (λ resolved. Resolves segment.now (test_shape test.now) resolved) }
+    ensures number { IfOk result (λ resolved. IsByNumber (test_shape test.now) resolved) }
+    ensures attrs { IfOk result (λ resolved. HasAttrs segment.now resolved) }
+    ensures asked { OnOk result (asked.new ≡ asked.old + length (test_patterns (test_shape test.now))) }
+    ensures texts { patterns.new ≡ patterns.old }
+    ensures kept { P.refused shop.new ≡ P.refused shop.old }
+    ensures rises { steps.old ≤ steps.new }
+    ensures finds { IsEquals (test_shape test.now) → FindEach segment.now (test_shape test.now ∷ []) (steps.new - steps.old) }
+{
+    match test {
+        Test::Any => Ok(Resolved::Any),
+        Test::Pattern { attr, text, not } => {
+            resolved_pattern(alloc, segment, *attr, text, *not, patterns, asked, shop)
+        }
+        Test::Literal { attr, text, not } => {
+            Ok(resolved_literal(segment, *attr, text, *not, steps))
+        }
         Test::Not(inner) => {
-            let inner = resolved_test(alloc, segment, inner, patterns, asked, shop, steps)?;
+            let inner = resolved_with_parts(alloc, segment, inner, patterns, asked, shop, steps)?;
             Ok(Resolved::Not(Box::new(alloc, inner)?))
         }
         Test::Both(left, right) => {
-            let left = resolved_test(alloc, segment, left, patterns, asked, shop, steps)?;
-            let right = resolved_test(alloc, segment, right, patterns, asked, shop, steps)?;
+            let left = resolved_with_parts(alloc, segment, left, patterns, asked, shop, steps)?;
+            let right = resolved_with_parts(alloc, segment, right, patterns, asked, shop, steps)?;
             Ok(Resolved::Both(Box::new(alloc, left)?, Box::new(alloc, right)?))
         }
         Test::Either(left, right) => {
-            let left = resolved_test(alloc, segment, left, patterns, asked, shop, steps)?;
-            let right = resolved_test(alloc, segment, right, patterns, asked, shop, steps)?;
+            let left = resolved_with_parts(alloc, segment, left, patterns, asked, shop, steps)?;
+            let right = resolved_with_parts(alloc, segment, right, patterns, asked, shop, steps)?;
             Ok(Resolved::Either(Box::new(alloc, left)?, Box::new(alloc, right)?))
         }
     }
@@ -102,7 +138,7 @@ fn resolved_pattern<P: PatternShop>(
 fn by_number<P: PatternShop>(
     segment: &Segment,
     attr: u16,
-    pattern: &WholePattern<P>,
+    pattern: &KnownPattern<P>,
     not: bool,
 ) -> Option<Resolved>
     requires { attr < length segment.now.attrs }
@@ -124,7 +160,7 @@ fn by_number<P: PatternShop>(
 fn numbered<P: PatternShop>(
     segment: &Segment,
     attr: u16,
-    pattern: &WholePattern<P>,
+    pattern: &KnownPattern<P>,
     id: Option<u32>,
     not: bool,
 ) -> Resolved

@@ -8,8 +8,8 @@ use Rattle.mt_grammar_counts.proofs.patterns.GrammarPatterns.prepare_all.Goals a
 
 pub loop-i-init : goal.loop-i-init
 loop-i-init g c = record {
-  ready = subst (λ (ps : List Prepared). AllZip (IsPrepared c.args.segment.now) [] ps) (sym c.in_ok-prepared.ensures) tt;
-  spans = c.new-spans.ensures.known c.args.segment.now;
+  ready = subst (λ (ps : List Prepared). AllZip (IsPrepared c.args.segment.now) [] ps) (sym c.clear.ensures) tt;
+  spans = c.turn.ensures.known c.args.segment.now;
   texts = refl;
   shop = refl;
 }

@@ -21,8 +21,8 @@ loop-i-preserved g c =
     let i = c.loop-i.i in
     let l : i < length all = omega (arith, c.loop-i-test.true, c.len-i-end.ensures, ap length c.queries-queries.ensures) in
     record {
-      ready = λ before old. behind_more (IsPrepared c.args.segment.now) before all c.loop-i.prepared c.push.new.self i q c.in_ok-ready.ready l (c.get-query.ensures ∙ ap (λ (qs : List Query). get_or qs i q) c.queries-queries.ensures) c.in_ok-push.ensures.ok
-          (c.loop-i.invariant.ready before old) c.in_ok-ready.ensures.prepared;
+      ready = λ before old. behind_more (IsPrepared c.args.segment.now) before all c.loop-i.prepared c.prepare.new.prepared i q l (c.get-query.ensures ∙ ap (λ (qs : List Query). get_or qs i q) c.queries-queries.ensures) c.in_ok-prepare.ensures.prepared
+          (c.loop-i.invariant.ready before old);
       spans = c.prepare.ensures.spans;
       texts = c.prepare.ensures.texts ∙ c.loop-i.invariant.texts;
       shop = c.prepare.ensures.kept ∙ c.loop-i.invariant.shop;

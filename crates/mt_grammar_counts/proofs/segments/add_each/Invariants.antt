@@ -5,7 +5,7 @@ use Rattle.mt_count_spec.specs.Counts.{HasRoom}
 use Rattle.mt_triples.specs.CountsOf.{AreCountsOf}
 use Rattle.mt_corpus_spec.specs.Groups.{corpus_of}
 use Rattle.mt_corpus_spec.specs.Images.{AreImagesBy}
-use Rattle.mt_grammar_counts.proofs.segments.add_segments.Given as goal
+use Rattle.mt_grammar_counts.proofs.segments.add_each.Given as goal
 
 abbrev pub invariant-loop-i : goal.invariant-loop-i
 invariant-loop-i g l = record {
