@@ -6,7 +6,7 @@ ghost use Rattle.mt_text_spec.specs.Lines.{closed};
 ghost use Rattle.mt_session_spec.specs.Answers as answers;
 ghost use Rattle.mt_session_spec.specs.Refusals as refusals;
 ghost use Rattle.mt_answer.specs.Refusals.{refusal_of};
-ghost use Rattle.mt_answer.specs.Replies.{Says, Given};
+ghost use Rattle.mt_answer.specs.Replies.{Given};
 
 use super::refusal::{Refusal, failure, pattern_line};
 use mt_base::{List, NoMemory, Value};

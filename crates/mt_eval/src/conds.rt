@@ -1,8 +1,7 @@
 //! Conditions on the labels of rows.
 
 ghost use Rattle.std.specs.Prelude.{◌≡◌, ℕ, ◌+◌, ◌<◌, ◌≤◌, length, Decides, IfSome, IfNone, OnOk};
-ghost use Rattle.std.specs.List.{All, AllZip};
-ghost use Rattle.mt_text_spec.specs.Texts as spec;
+ghost use Rattle.std.specs.List.{All};
 ghost use Rattle.mt_match_spec.specs.Labels.{IsSetTo};
 ghost use Rattle.mt_segment_spec.specs.Tables.{token_count};
 ghost use Rattle.mt_eval_spec.specs.Told.{told_value};

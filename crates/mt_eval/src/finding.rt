@@ -2,8 +2,6 @@
 
 ghost use Rattle.std.specs.Prelude.{◌≡◌, ◌+◌, ◌-◌, ◌*◌, ◌<◌, ◌≤◌, [], length, IsTrue, IfOk, IfSome, OnOk, IsErrOf};
 ghost use Rattle.std.specs.List.{All};
-ghost use Rattle.mt_text_spec.specs.Texts as spec;
-ghost use Rattle.mt_text_spec.specs.Queries as q;
 ghost use Rattle.mt_query_spec.specs.Contents.{token_tests};
 ghost use Rattle.mt_cql.specs.Shape.{shape};
 ghost use Rattle.mt_automaton.specs.Compiled.{IsOf};

@@ -1,6 +1,6 @@
 //! Sequences of tests of tokens in which one gap stands: one test of a token with no label, so many times.
 
-ghost use Rattle.std.specs.Prelude.{◌≡◌, ◌+◌, ◌<◌, ◌≤◌, IsTrue, length, IfSome};
+ghost use Rattle.std.specs.Prelude.{◌≡◌, ◌+◌, ◌<◌, length, IfSome};
 ghost use Rattle.std.specs.List.{All, AllZip};
 ghost use Rattle.mt_query_spec.specs.Contents.{token_tests};
 ghost use Rattle.mt_cql.specs.Shape.{shape};

@@ -1,6 +1,6 @@
 //! The rows of tests of tokens with one gap among them in short texts, which are looked for at each token.
 
-ghost use Rattle.std.specs.Prelude.{◌≡◌, ℕ, ◌+◌, ◌<◌, ◌≤◌, [], length, IfOk, OnOk, IsErrOf};
+ghost use Rattle.std.specs.Prelude.{◌≡◌, ◌+◌, ◌<◌, ◌≤◌, [], length, IfOk, OnOk, IsErrOf};
 ghost use Rattle.mt_cql.specs.Shape.{shape};
 ghost use Rattle.mt_text_spec.specs.Texts as spec;
 ghost use Rattle.mt_segment_spec.specs.Tables.{first_place, token_count};

@@ -3,9 +3,9 @@
 ghost use Rattle.std.specs.Prelude.{◌≡◌, ◌+◌, ◌-◌, ◌<◌, ◌≤◌, Some, cond, not, length};
 ghost use Rattle.std.specs.Bool.{Decides};
 ghost use Rattle.std.specs.List.{All};
-ghost use Rattle.mt_segment_spec.specs.Tables.{number_at, token_count};
+ghost use Rattle.mt_segment_spec.specs.Tables.{token_count};
 ghost use Rattle.mt_prepare.specs.TestRows.{HasAttrs, SaysAt};
-ghost use Rattle.mt_eval.specs.Sequences.{IsOne, SayFrom, test_at};
+ghost use Rattle.mt_eval.specs.Sequences.{IsOne, SayFrom};
 
 use mt_base::Steps;
 use mt_prepare::Resolved;

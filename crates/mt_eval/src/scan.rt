@@ -1,6 +1,6 @@
 //! The rows of a sequence of tests of tokens in a short text, which are looked for at each of its tokens.
 
-ghost use Rattle.std.specs.Prelude.{◌≡◌, ◌+◌, ◌<◌, ◌≤◌, length, OnOk, IsErrOf};
+ghost use Rattle.std.specs.Prelude.{◌≡◌, ◌<◌, ◌≤◌, length, OnOk, IsErrOf};
 ghost use Rattle.mt_cql.specs.Shape.{shape};
 ghost use Rattle.mt_text_spec.specs.Texts as spec;
 ghost use Rattle.mt_segment_spec.specs.Tables.{token_count};

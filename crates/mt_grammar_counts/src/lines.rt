@@ -1,6 +1,6 @@
 //! The rows of all queries of a sketch grammar in one text.
 
-ghost use Rattle.std.specs.Prelude.{◌≡◌, ℕ, [], ◌∷◌, ◌++◌, List as Items, IfSome, MatchOption, OnOk, IsErrOf};
+ghost use Rattle.std.specs.Prelude.{[], ◌∷◌, ◌++◌, List as Items, IfSome, MatchOption, OnOk, IsErrOf};
 ghost use Rattle.std.specs.List.{All, Contains};
 ghost use Rattle.mt_text_spec.specs.Texts as texts;
 ghost use Rattle.mt_text_spec.specs.Queries as queries;
@@ -8,7 +8,6 @@ ghost use Rattle.mt_match_spec.specs.Values.{Images};
 ghost use Rattle.mt_match_spec.specs.Kept.{Over};
 ghost use Rattle.mt_count_spec.specs.Counts.{HasRoom};
 ghost use Rattle.mt_eval_spec.specs.Told.{told_tokens};
-ghost use Rattle.mt_eval_spec.specs.Fits.{Fits};
 ghost use Rattle.mt_prepare.specs.KnownRows.{AreKnownIn};
 ghost use Rattle.mt_instances.specs.Gains.{LabelsLie};
 ghost use Rattle.mt_instances.specs.Laws.{AreOfLines, Line};

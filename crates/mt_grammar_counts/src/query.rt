@@ -1,6 +1,6 @@
 //! The rows of one query in one text.
 
-ghost use Rattle.std.specs.Prelude.{◌≡◌, ℕ, [], ◌∷◌, ◌++◌, List as Items, replicate, None, IfOk, IfSome, MatchOption, OnOk, IsErrOf};
+ghost use Rattle.std.specs.Prelude.{◌≡◌, [], ◌∷◌, ◌++◌, List as Items, replicate, None, IfOk, IfSome, MatchOption, OnOk, IsErrOf};
 ghost use Rattle.mt_text_spec.specs.Texts as texts;
 ghost use Rattle.mt_match_spec.specs.Values.{Images};
 ghost use Rattle.mt_match_spec.specs.Kept.{Over, operand_rows_limit};

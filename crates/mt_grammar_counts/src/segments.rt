@@ -1,6 +1,6 @@
 //! Counting the texts of segments, one segment after another.
 
-ghost use Rattle.std.specs.Prelude.{◌≡◌, ℕ, [], ◌++◌, List as Items, OnOk, IsErrOf};
+ghost use Rattle.std.specs.Prelude.{◌≡◌, [], ◌++◌, List as Items, OnOk, IsErrOf};
 ghost use Rattle.mt_text_spec.specs.Texts as texts;
 ghost use Rattle.mt_match_spec.specs.Values.{Images};
 ghost use Rattle.mt_count_spec.specs.Counts.{HasRoom};

@@ -1,6 +1,6 @@
 //! Counting texts of a segment, one after another.
 
-ghost use Rattle.std.specs.Prelude.{◌≡◌, ℕ, [], ◌∷◌, ◌++◌, ◌<◌, length, List as Items, None, OnOk, IsErrOf};
+ghost use Rattle.std.specs.Prelude.{◌≡◌, [], ◌∷◌, ◌++◌, ◌<◌, length, List as Items, None, OnOk, IsErrOf};
 ghost use Rattle.std.specs.List.{All};
 ghost use Rattle.mt_text_spec.specs.Texts as texts;
 ghost use Rattle.mt_match_spec.specs.Values.{Images};

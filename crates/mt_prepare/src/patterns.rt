@@ -1,6 +1,6 @@
 //! The patterns of a query, each built once.
 
-ghost use Rattle.std.specs.Prelude.{◌≡◌, ◌+◌, ◌^◌, ◌<◌, ◌++◌, ◌∷◌, [], length, slice_index_or, IfOk, IfErr, OnOk, OnErr};
+ghost use Rattle.std.specs.Prelude.{◌≡◌, ◌+◌, ◌^◌, ◌<◌, ◌++◌, ◌∷◌, [], length, slice_index_or, IfOk, IfErr, OnOk};
 ghost use Rattle.std.specs.List.{All};
 ghost use Rattle.mt_cql.specs.Shape.{test_shape, shape, filters_shape};
 ghost use Rattle.mt_pattern_spec.specs.Patterns.{MarksAccepted};

@@ -1,9 +1,9 @@
 //! Queries made ready for segments.
 
-ghost use Rattle.std.specs.Prelude.{◌≡◌, ◌+◌, ◌-◌, ◌<◌, ◌≤◌, ◌++◌, ◌∷◌, [], List as Items, length, IfOk, IfErr, OnOk};
-ghost use Rattle.std.specs.List.{All, AllZip};
+ghost use Rattle.std.specs.Prelude.{◌≡◌, ◌+◌, ◌-◌, ◌<◌, ◌≤◌, ◌∷◌, [], length, IfOk, IfErr, OnOk};
+ghost use Rattle.std.specs.List.{All};
 ghost use Rattle.mt_text_spec.specs.Queries as q;
-ghost use Rattle.mt_query_spec.specs.Contents.{OfBegin, OfEnd, OfWhole, TagPlace, tags, token_tests};
+ghost use Rattle.mt_query_spec.specs.Contents.{TagPlace, tags, token_tests};
 ghost use Rattle.mt_cql.specs.Shape.{test_shape, shape, filters_shape};
 ghost use Rattle.mt_eval_spec.specs.Told.{IsFor};
 ghost use Rattle.mt_eval_spec.specs.Asked.{test_patterns, expr_patterns, filters_patterns, query_patterns};
@@ -55,7 +55,9 @@ pub struct Prepared {
 
 impl Prepared {
     /// No query yet. It takes no memory.
-    pub fn new(alloc: Global) -> Self {
+    pub fn new(alloc: Global) -> Self
+        ensures { result.exprs ≡ [] }
+    {
         Prepared {
             exprs: List::new(alloc),
         }

@@ -4,7 +4,6 @@ ghost use Rattle.std.specs.Prelude.{◌≡◌, ◌++◌, ℕ, ◌<◌, [], ◌�
 ghost use Rattle.std.specs.List.{All, AllZip};
 ghost use Rattle.mt_text_spec.specs.Queries as q;
 ghost use Rattle.mt_cql.specs.Shape.{shape};
-ghost use Rattle.mt_automaton.specs.Parts.{Tag};
 ghost use Rattle.mt_prepare.specs.Asks.{HasAttr, HasKind, Names};
 ghost use Rattle.mt_prepare.specs.Resolved.{AreSpansOf};
 ghost use Rattle.mt_prepare.specs.TestRows.{HasAttrs};

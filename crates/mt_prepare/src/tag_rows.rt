@@ -1,12 +1,10 @@
 //! Where the instances of a tag lie in one text, as sets of places and as spans.
 
-ghost use Rattle.std.specs.Prelude.{◌≡◌, ◌↔◌, ℕ, ◌+◌, ◌/◌, ◌<◌, ◌≤◌, ◌⊎◌, length, slice_index_or, IsTrue, IfOk, OnOk, IfSome, IfNone};
+ghost use Rattle.std.specs.Prelude.{◌≡◌, ◌↔◌, ℕ, ◌+◌, ◌/◌, ◌<◌, ◌≤◌, length, slice_index_or, IsTrue, OnOk, IfSome, IfNone};
 ghost use Rattle.std.specs.List.{All, AllPairs, Contains};
 ghost use Rattle.mt_text_spec.specs.Queries as q;
 ghost use Rattle.mt_text_spec.specs.Texts as spec;
 ghost use Rattle.mt_places.specs.Places.{In, HasJust, room};
-ghost use Rattle.mt_segment_spec.specs.Tables.{token_count};
-ghost use Rattle.mt_automaton.specs.Parts.{Tag};
 ghost use Rattle.mt_prepare.specs.Resolved.{AreSpansOf};
 ghost use Rattle.mt_prepare.specs.TagRows.{IsBefore, IsFirstFrom, IsLastOfText, StandBetween, IsLongerAt, IsOfSome, BeginsAt, EndsAt, IsEmptyAt, AreRowsOf};
 

@@ -1,11 +1,11 @@
 //! Rows of tests: the places of a segment of which a test holds, as sets.
 
-ghost use Rattle.std.specs.Prelude.{◌≡◌, ℕ, ◌+◌, ◌*◌, ◌/◌, ◌<◌, ◌≤◌, ◌⊎◌, true, length, slice_get, slice_index, slice_index_or, Some, None, IsTrue, IfOk, OnOk};
+ghost use Rattle.std.specs.Prelude.{◌≡◌, ℕ, ◌+◌, ◌*◌, ◌/◌, ◌<◌, ◌≤◌, ◌⊎◌, true, length, slice_get, slice_index, Some, None, IfOk, OnOk};
 ghost use Rattle.std.specs.List.{All, Contains};
 ghost use Rattle.mt_places.specs.Places.{In, HasJust, room};
 ghost use Rattle.mt_match_spec.specs.Tests.{Unless};
 ghost use Rattle.mt_segment_spec.specs.Tables.{number_at, tables_at, token_count};
-ghost use Rattle.mt_prepare.specs.TestRows.{IsRow, SaysAt, HasAttrs, NumberIsIn, AreNumbers, IsListedBelow};
+ghost use Rattle.mt_prepare.specs.TestRows.{IsRow, SaysAt, HasAttrs, NumberIsIn, AreNumbers};
 ghost use Rattle.mt_prepare.specs.KnownRows.{AreKnownIn};
 
 use crate::known_rows::KnownRows;

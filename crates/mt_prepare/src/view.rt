@@ -1,6 +1,6 @@
 //! One text of a segment, as an expression sees it.
 
-ghost use Rattle.std.specs.Prelude.{◌≡◌, ℕ, ◌+◌, ◌*◌, ◌/◌, ◌%◌, ◌^◌, ◌<◌, ◌≤◌, [], length, slice_index_or};
+ghost use Rattle.std.specs.Prelude.{◌≡◌, ◌+◌, ◌/◌, ◌%◌, ◌<◌, ◌≤◌, [], length, slice_index_or};
 ghost use Rattle.mt_places.specs.Places.{In, WordIs};
 ghost use Rattle.mt_cql.specs.Shape.{shape};
 ghost use Rattle.mt_segment_spec.specs.Tables.{AreTables, first_place};

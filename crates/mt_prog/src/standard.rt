@@ -1,6 +1,6 @@
 //! A reader as a source, a writer as a sink and a folder as a shelf. They tell no bytes and no files to those that use them as such.
 
-ghost use Rattle.std.specs.Prelude.{◌≡◌, ◌≢◌, ◌<◌, ◌≤◌, [], ◌∷◌, ◌++◌, length, None, Some, Ok, Err, IfOk, OnOk, OnErr};
+ghost use Rattle.std.specs.Prelude.{◌≡◌, ◌≢◌, ◌<◌, ◌≤◌, [], length, None, Some, Ok, Err, IfOk, OnOk, OnErr};
 ghost use Rattle.std.specs.Io.KnownBytes.{ReadConsumes, WriteAppends};
 ghost use Rattle.mt_outside.specs.Faults.{Rose, one_more};
 ghost use Rattle.mt_outside.specs.Shelves.{Finds};

@@ -1,7 +1,6 @@
 //! Reading a file of the shelf.
 
 ghost use Rattle.std.specs.Prelude.{◌≡◌};
-ghost use Rattle.mt_shelf_spec.specs.Files.{Files};
 ghost use Rattle.mt_shell.specs.Sights.{Sees};
 ghost use Rattle.mt_shell.specs.Outsides.{gains};
 ghost use Rattle.mt_shell.specs.Fetches.{Finds, gained_of};

@@ -1,7 +1,6 @@
 //! A script in memory, in place of a source.
 
-ghost use Rattle.std.specs.Prelude.{◌≡◌, ◌≤◌, length, Some, IfOk};
-ghost use Rattle.mt_outside.specs.Told.{Takes};
+ghost use Rattle.std.specs.Prelude.{◌≡◌, ◌≤◌, length, Some};
 
 use mt_base::List;
 use mt_outside::{Failed, Source};

@@ -1,6 +1,6 @@
 //! What is held.
 
-ghost use Rattle.std.specs.Prelude.{◌≡◌, ◌↔◌, ℕ, List, IfOk, IsTrue};
+ghost use Rattle.std.specs.Prelude.{◌≡◌, ◌↔◌, IfOk, IsTrue};
 ghost use Rattle.mt_corpus_spec.specs.Images.{AreImagesBy};
 ghost use Rattle.mt_script_spec.specs.Commands as spec;
 ghost use Rattle.mt_session_spec.specs.World.{Holds, ValidHeld};

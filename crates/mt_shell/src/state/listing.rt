@@ -1,6 +1,6 @@
 //! `segments`.
 
-ghost use Rattle.std.specs.Prelude.{◌≡◌, ◌<◌, ◌+◌, ◌-◌, ℕ, List as Items, length, map, sum, IfOk};
+ghost use Rattle.std.specs.Prelude.{◌≡◌, ◌<◌, ◌+◌, ◌-◌, length, IfOk};
 ghost use Rattle.std.specs.List.{All, AllZip, flat_map};
 ghost use Rattle.mt_text_spec.specs.Lines.{closed};
 ghost use Rattle.mt_corpus_spec.specs.Images.{AreImagesBy};
