@@ -217,7 +217,7 @@ fn tell_and_list<R: Threads + Sync, L: Ledger>(
     rows
 }
 
-/// The same, where some wait. None wait any more.
+/// The rows that a query keeps in a text by itself. The collector is told those that wait, if any do, as `tell_and_list` tells them, and none wait any more.
 #[inline(never)]
 fn tell_waiting<R: Threads + Sync, L: Ledger>(
     rt: &R,
@@ -261,7 +261,7 @@ fn tell_waiting<R: Threads + Sync, L: Ledger>(
     }
 }
 
-/// The same, where mostly none wait.
+/// The rows that a query keeps in a text by itself, and none wait any more: the quick way for the many texts of which none do.
 fn list_next<R: Threads + Sync, L: Ledger>(
     rt: &R,
     alloc: Global,

@@ -11,6 +11,7 @@ ghost use Rattle.mt_triples.specs.CountsOf.{AreCountsOf};
 ghost use Rattle.mt_corpus_spec.specs.Groups.{corpus_of};
 ghost use Rattle.mt_corpus_spec.specs.Images.{AreImagesBy};
 ghost use Rattle.mt_grammar_counts.specs.Asked.{patterns_of};
+ghost use Rattle.mt_grammar_counts.specs.Collecting.{IsFresh};
 ghost use Rattle.mt_grammar_counts.specs.Told.{HasNoRoom, TellAll};
 
 use super::error::CountError;
@@ -77,7 +78,60 @@ impl Buffers {
     }
 }
 
-/// Counts the texts of a segment that have these numbers, each by itself. The queries of the grammar are made ready once, and share the rows of their tests.
+/// Makes the queries of a grammar ready for a segment, once for all of its texts, and counts those that have these numbers, each by itself. The queries share the rows of
+/// their tests.
+fn add_ready<P: PatternShop, R: Threads + Sync, L: Ledger>(
+    rt: &R,
+    alloc: Global,
+    registry: &Registry,
+    grammar: &Grammar,
+    patterns: &mut GrammarPatterns<P>,
+    segment: &Segment,
+    numbers: &[u32],
+    collector: &mut Collector<'_>,
+    buffers: &mut Buffers,
+    shop: &mut P,
+    steps: &mut Steps<L>,
+) -> Result<(), CountError>
+    requires under { AreTablesUnder registry.now segment.now }
+    requires numbers { AreTexts segment.now numbers.now }
+    requires grammar { ValidGrammar registry.now grammar.now }
+    requires patterns { patterns.old ≡ patterns_of grammar.now }
+    requires fresh { IsFresh segment.now registry.now.ws_attr collector.old }
+    ensures counts { (images : Images) (of : Items texts.Text) (done : Items texts.Text) → TellAll images registry.now segment.now numbers.now of → AreCountsOf images registry.now grammar.now done collector.old.counted
+        → OnOk result (AreCountsOf images registry.now grammar.now (done ++ of) collector.new.counted) }
+    ensures room { (images : Images) (of : Items texts.Text) → TellAll images registry.now segment.now numbers.now of → OnOk result (HasRoom images registry.now grammar.now of) }
+    ensures too_many { (images : Images) (of : Items texts.Text) → TellAll images registry.now segment.now numbers.now of → IsErrOf result CountError.TooManyRows → HasNoRoom images registry.now grammar.now of }
+    ensures patterns { patterns.new ≡ patterns.old }
+    ensures shop { P.refused shop.new ≡ P.refused shop.old }
+{
+    grammar_queries_are_in_order();
+    patterns.prepare_all(
+        alloc,
+        grammar,
+        segment,
+        &mut buffers.spans,
+        &mut buffers.ready,
+        shop,
+        steps,
+    )?;
+    buffers.scratch.lists.turn(alloc, MOST_ROWS);
+    add_texts(
+        rt,
+        alloc,
+        registry,
+        grammar,
+        buffers.ready.as_slice(),
+        segment,
+        numbers,
+        collector,
+        &mut buffers.listed,
+        &mut buffers.scratch,
+        steps,
+    )
+}
+
+/// Counts the texts of a segment that have these numbers, each by itself. What was made ready for a large segment goes, also after an error.
 pub(crate) fn add_segment<'a, P: PatternShop, R: Threads + Sync, L: Ledger>(
     rt: &R,
     alloc: Global,
@@ -102,31 +156,10 @@ pub(crate) fn add_segment<'a, P: PatternShop, R: Threads + Sync, L: Ledger>(
     ensures patterns { patterns.new ≡ patterns.old }
     ensures shop { P.refused shop.new ≡ P.refused shop.old }
 {
-    grammar_queries_are_in_order();
     let _valid = segment.texts();
     collector.turn_to(segment.lexicon(registry.ws_attr()));
-    patterns.prepare_all(
-        alloc,
-        grammar,
-        segment,
-        &mut buffers.spans,
-        &mut buffers.ready,
-        shop,
-        steps,
-    )?;
-    buffers.scratch.lists.turn(alloc, MOST_ROWS);
-    let counted = add_texts(
-        rt,
-        alloc,
-        registry,
-        grammar,
-        buffers.ready.as_slice(),
-        segment,
-        numbers,
-        collector,
-        &mut buffers.listed,
-        &mut buffers.scratch,
-        steps,
+    let counted = add_ready(
+        rt, alloc, registry, grammar, patterns, segment, numbers, collector, buffers, shop, steps,
     );
     buffers.let_queries_go_where_large(alloc, segment);
     counted

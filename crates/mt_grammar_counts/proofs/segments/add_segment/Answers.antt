@@ -2,24 +2,14 @@ use Rattle.std.proofs.Common.{◌∙◌, sym, ap, subst}
 use Rattle.mt_counts.specs.Counted.{Counted}
 use Rattle.mt_triples.specs.CountsOf.{AreCountsOf}
 use Rattle.mt_instances.specs.Collected.{Collected}
-use Rattle.mt_grammar_counts.proofs.GroupLists.{all_fit, all_for, attr_within}
+use Rattle.mt_grammar_counts.proofs.GroupLists.{attr_within}
 use Rattle.mt_grammar_counts.proofs.segments.add_segment.Goals as goal
 
 pub lexicon-requires : goal.lexicon-requires
 lexicon-requires g c = rw c.ws_attr.ensures (attr_within c.args.registry.now c.args.segment.now c.requires.under)
 
-pub prepare_all-requires-clause-queries : goal.prepare_all-requires-clause-queries
-prepare_all-requires-clause-queries g c =
-    let e = c.grammar_queries_are_in_order.ensures in
-    all_for c.args.registry.now c.args.segment.now c.args.grammar.now c.requires.under (all_fit (record { head = e.head; filters = e.filters; conds = e.conds }) c.args.registry.now c.args.grammar.now c.requires.grammar)
-
-pub add_texts-counted-requires-clause-fit : goal.add_texts-counted-requires-clause-fit
-add_texts-counted-requires-clause-fit g c = λ lifetimes outlive.
-    let e = c.grammar_queries_are_in_order.ensures in
-    all_fit (record { head = e.head; filters = e.filters; conds = e.conds }) c.args.registry.now c.args.grammar.now c.requires.grammar
-
-pub add_texts-counted-requires-clause-fresh : goal.add_texts-counted-requires-clause-fresh
-add_texts-counted-requires-clause-fresh g c = λ lifetimes outlive.
+pub add_ready-counted-requires-clause-fresh : goal.add_ready-counted-requires-clause-fresh
+add_ready-counted-requires-clause-fresh g c = λ lifetimes outlive.
     let is = c.turn_to.ensures in
     record {
       lexicon = ap (λ (o : Collected). o.lexicon) is ∙ rw c.ws_attr.ensures at c.lexicon.ensures;
@@ -29,8 +19,5 @@ add_texts-counted-requires-clause-fresh g c = λ lifetimes outlive.
 
 pub returns-clause-counts : goal.returns-clause-counts
 returns-clause-counts g c = λ images of done tell old.
-    c.add_texts-counted.ensures.counts images of done tell
+    c.add_ready-counted.ensures.counts images of done tell
     (subst (λ (counted : Counted). AreCountsOf images c.args.registry.now c.args.grammar.now done counted) (sym (ap (λ (o : Collected). o.counted) c.turn_to.ensures)) old)
-
-pub add_texts-counted-requires-clause-rows : goal.add_texts-counted-requires-clause-rows
-add_texts-counted-requires-clause-rows g c = λ lifetimes outlive. c.turn.ensures.known c.args.segment.now
