@@ -1,6 +1,6 @@
 //! Counts that are added.
 
-ghost use Rattle.std.specs.Prelude.{◌≡◌, ◌+◌, ◌^◌, ◌<◌, length, IsTrue, OnErr, OnOk};
+ghost use Rattle.std.specs.Prelude.{◌≡◌, ◌+◌, ◌^◌, ◌<◌, length, IsFalse, IsTrue, OnErr, OnOk};
 ghost use Rattle.std.specs.List.{All};
 ghost use Rattle.mt_counts.specs.Counted.{HaveSame, IsSum};
 ghost use Rattle.mt_counts.specs.Names.{AreRenumbered};
@@ -19,7 +19,8 @@ const BLOCK: usize = 1024;
 impl Tables {
     /// Whether each table has room for so many counts.
     pub(crate) fn has_room_for(&self, more: usize) -> bool
-        ensures { IsTrue result → HasRoomFor self.now more }
+        ensures room { IsTrue result → HasRoomFor self.now more }
+        ensures none { IsFalse result → HasRoomFor self.now more → ⊥ }
     {
         let most = u64::MAX - more as u64;
         self.rows.sum() <= most

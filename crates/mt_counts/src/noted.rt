@@ -1,6 +1,6 @@
 //! What a text counts.
 
-ghost use Rattle.std.specs.Prelude.{◌≡◌, [], length, slice_get, Some, IfOk, OnOk};
+ghost use Rattle.std.specs.Prelude.{◌≡◌, ◌+◌, ◌^◌, ◌≤◌, [], ◌∷◌, ◌++◌, length, slice_get, Some, IfOk, OnErr, OnOk};
 ghost use Rattle.std.specs.List.{All};
 ghost use Rattle.mt_counts.specs.Counted.{HaveSame, IsSum};
 ghost use Rattle.mt_counts.specs.Names.{Begins};
@@ -66,6 +66,7 @@ impl Noted {
     pub fn name(&mut self, name: &str) -> Result<u32, NoMemory>
         ensures number { IfOk result (λ number. slice_get self.new.names number ≡ Some name.now) }
         ensures names { Begins self.old.names self.new.names }
+        ensures one { OnOk result (self.new.names ≡ self.old.names ++ name.now ∷ []) }
         ensures words { self.new.words ≡ self.old.words }
         ensures counted { HaveSame self.old.counted self.new.counted }
     {
@@ -79,6 +80,7 @@ impl Noted {
         ensures number { IfOk result (λ number. slice_get self.new.words number ≡ Some word.now) }
         ensures names { self.new.names ≡ self.old.names }
         ensures words { Begins self.old.words self.new.words }
+        ensures one { OnOk result (self.new.words ≡ self.old.words ++ word.now ∷ []) }
         ensures counted { HaveSame self.old.counted self.new.counted }
     {
         let number = number_behind(&self.words)?;
@@ -92,6 +94,7 @@ impl Noted {
         ensures names { self.new.names ≡ self.old.names }
         ensures words { self.new.words ≡ self.old.words }
         ensures ok { OnOk result (IsSum self.old.counted (noted self.old.names self.old.words notes.items) self.new.counted) }
+        ensures err { OnErr result (HaveSame self.old.counted self.new.counted) }
         ensures emptied { IfOk result (λ room. room.items ≡ []) }
     {
         if self.notes.is_empty() {
@@ -105,7 +108,8 @@ impl Noted {
 
 /// The number of a text that comes behind some others.
 fn number_behind(texts: &Strings) -> Result<u32, NoMemory>
-    ensures { IfOk result (λ number. number ≡ length texts.now) }
+    ensures ok { IfOk result (λ number. number ≡ length texts.now) }
+    ensures err { OnErr result (2 ^ 32 ≤ length texts.now + 1) }
 {
     if texts.len() >= u32::MAX as usize {
         return Err(NoMemory);
