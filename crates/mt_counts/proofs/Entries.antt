@@ -1,5 +1,5 @@
 -- Entries at their places, found by their keys and changed.
-use Rattle.std.proofs.Common.{◌≡◌, ℕ, zero, suc, ◌+◌, ◌-◌, ◌<◌, ◌≤◌, Bool, true, Some, None, List, [], ◌∷◌, ◌++◌, length, get_or, slice_get, position, refl, sym, ap, subst, ◌∙◌, arith, true≢false, append-nil, nat_eq, ◌&&◌, eqb-true, ◌⊎◌, inl, inr}
+use Rattle.std.proofs.Common.{◌≡◌, ℕ, zero, suc, ◌+◌, ◌-◌, ◌<◌, ◌≤◌, Bool, true, Some, None, List, [], ◌∷◌, ◌++◌, length, map, get_or, slice_get, position, refl, sym, ap, subst, ◌∙◌, arith, true≢false, append-nil, nat_eq, ◌&&◌, eqb-true, ◌⊎◌, inl, inr}
 use Rattle.std.specs.List.{position_or_len, IsDistinct}
 use Rattle.std.specs.Map.{keys_of}
 use Rattle.std.proofs.lemmas.Bool.{cases_lt, cases_order, and_parts, and_from, eq-eqb}
@@ -49,6 +49,14 @@ pub classes-set : (es : List ((ℕ × ℕ) × ℕ)) (i w : ℕ) → classes (set
 classes-set [] i w = refl
 classes-set (e ∷ es) zero w = refl
 classes-set (e ∷ es) (suc i) w = ap (λ (cs : List ℕ). e.0.0 ∷ cs) (classes-set es i w)
+
+-- the classes are told by the keys alone
+pub classes-keys : (es others : List ((ℕ × ℕ) × ℕ)) → keys_of others ≡ keys_of es → classes others ≡ classes es
+classes-keys es others e = told others ∙ ap (λ (ks : List (ℕ × ℕ)). map (λ (k : ℕ × ℕ). k.0) ks) e ∙ sym (told es)
+  where
+    told : (es : List ((ℕ × ℕ) × ℕ)) → classes es ≡ map (λ (k : ℕ × ℕ). k.0) (keys_of es)
+    told [] = refl
+    told (e ∷ es) = ap (λ (cs : List ℕ). e.0.0 ∷ cs) (told es)
 
 pub raised_at : {K : Type 0} (es : List (K × ℕ)) (place : ℕ) (key : K) (count by : ℕ) → slice_get es place ≡ Some (key, count) → IsRaised es place by (set_value_at es place (count + by))
 raised_at [] place key count by e = absurd (omega (arith, slice_get_within [] place (key, count) e))
@@ -158,3 +166,9 @@ pushed_below old new group member g m e below l n key k at = by (cases_lt k (len
 -- a pair whose key has these numbers
 pub pair_at_place : (es : List ((ℕ × ℕ) × ℕ)) (key : ℕ × ℕ) (count place group member : ℕ) → slice_get es place ≡ Some (key, count) → key.0 ≡ group → key.1 ≡ member → IsAt es (group, member) place
 pair_at_place es key count place group member there e f = rw (sym e, sym f) (record { count = count; there = there })
+
+-- the entry whose count stands at a place
+pub counted_at : {K : Type 0} (es : List (K × ℕ)) (place : ℕ) (key : K) (count : ℕ) → slice_get (map (λ (e : K × ℕ). e.1) es) place ≡ Some count → slice_get es place ≡ Some (get_or (keys_of es) place key, count)
+counted_at [] place key count e = absurd (omega (arith, slice_get_within [] place count e))
+counted_at (x ∷ es) zero key count e = let is : x.1 ≡ count = cc in ap (λ (n : ℕ). Some (x.0, n)) is
+counted_at (x ∷ es) (suc place) key count e = counted_at es place key count e

@@ -7,7 +7,7 @@ use Rattle.std.proofs.lemmas.Slice.Zip.{AllZip-long}
 use Rattle.indexmap.proofs.SetLemmas.{AllZip-push}
 use Rattle.mt_counts.specs.Tallies.{AreKeysBelow, Grows, HasKeysBelow, IsAt, IsRaised, each_once}
 use Rattle.mt_counts.specs.Totals.{total, AddUp}
-use Rattle.mt_counts.proofs.Entries.{grows_none, length-keys}
+use Rattle.mt_counts.proofs.Entries.{grows_none}
 use Rattle.mt_counts.proofs.Growing.{grows_then, grows_at, at_keys}
 use Rattle.mt_counts.proofs.Turning.{zip_weaker}
 use Rattle.mt_counts.proofs.Totals.{part, total-append, total-raised, raised_key}
@@ -48,9 +48,6 @@ pub placing_whole : (first now : List ((ℕ × ℕ) × ℕ)) (keys : List (ℕ �
 placing_whole first now keys places k h l = subst (λ (ks : List (ℕ × ℕ)). AllZip (IsAt now) ks places) (take_all k keys l) h.placed
 
 -- ---- counts are raised
-
-pub within_keys : (old now : List ((ℕ × ℕ) × ℕ)) (place : ℕ) → keys_of now ≡ keys_of old → place < length old → place < length now
-within_keys old now place e l = omega (arith, l, length-keys old, length-keys now, ap (λ (ks : List (ℕ × ℕ)). length ks) e)
 
 pub nothing_raised : (old : List ((ℕ × ℕ) × ℕ)) (keys : List (ℕ × ℕ)) → AddUp old (each_once (take 0 keys)) old
 nothing_raised old [] p = omega arith

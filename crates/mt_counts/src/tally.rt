@@ -220,9 +220,8 @@ impl Tally {
         ensures keys { keys_of self.new ≡ keys_of self.old }
         ensures added { (keys : Items (ℕ × ℕ)) → AllZip (IsAt self.old) keys places.now → AddUp self.old (each_once keys) self.new }
     {
-        for k in 0..places.len() {
-            self.raise(places[k] as usize, 1);
-        }
+        raise_counts(&mut self.counts, places);
+        self.sum += places.len() as u64;
     }
 
     /// Takes from the count at a place. It takes no memory.
@@ -283,6 +282,22 @@ impl Tally {
             below = self.belows[place as usize];
         }
         Ok(places)
+    }
+}
+
+/// Adds one to the count at each of some places.
+fn raise_counts(
+    counts: &mut IndexMap<(u32, u32), u64, BuildHasherDefault<PairHasher>>,
+    places: &[u32],
+)
+    requires within { All (λ place. place < length counts.old.entries) places.now }
+    requires few { total_of_all counts.old.entries + length places.now < 2 ^ 64 }
+    ensures keys { keys_of counts.new.entries ≡ keys_of counts.old.entries }
+    ensures sum { total_of_all counts.new.entries ≡ total_of_all counts.old.entries + length places.now }
+    ensures added { (keys : Items (ℕ × ℕ)) → AllZip (IsAt counts.old.entries) keys places.now → AddUp counts.old.entries (each_once keys) counts.new.entries }
+{
+    for k in 0..places.len() {
+        counts[places[k] as usize] += 1;
     }
 }
 
