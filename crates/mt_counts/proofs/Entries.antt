@@ -125,7 +125,7 @@ pub classes-pushed : (old new : List ((ℕ × ℕ) × ℕ)) (group member : ℕ)
 classes-pushed old new group member e = ap classes e ∙ map-append (λ (e : (ℕ × ℕ) × ℕ). e.0.0) old (((group, member), 0) ∷ [])
 
 -- keys that differ stand at one place each
-at_key : {K : Type 0} (es : List (K × ℕ)) (key : K) (i : ℕ) → IsAt es key i → (i < length (keys_of es)) × (get_or (keys_of es) i key ≡ key)
+pub at_key : {K : Type 0} (es : List (K × ℕ)) (key : K) (i : ℕ) → IsAt es key i → (i < length (keys_of es)) × (get_or (keys_of es) i key ≡ key)
 at_key es key i at =
     let within = slice_get_within es i (key, at.count) at.there in
     (omega (arith, within, length-keys es), get_or-keys es i key 0 ∙ ap (λ (x : _). x.0) (get_or_from_slice_get es i (key, at.count) (key, 0) at.there))

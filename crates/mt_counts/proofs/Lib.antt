@@ -18,3 +18,4 @@ pub mod Joined
 pub mod Placed
 pub mod Counting
 pub mod Filling
+pub mod Hints

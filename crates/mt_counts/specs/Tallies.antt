@@ -7,6 +7,10 @@ pub record IsAt {K : Type 0} (entries : List (K × ℕ)) (key : K) (place : ℕ)
   pub count : ℕ
   pub there : slice_get entries place ≡ Some (key, count)
 
+-- a pair stands at a place among the keys
+abbrev pub IsHint : List (ℕ × ℕ) → (group member place : ℕ) → Type 0
+IsHint keys group member place = slice_get keys place ≡ Some (group, member)
+
 -- no key stands at two places
 abbrev pub AreOnce : {K : Type 0} → List (K × ℕ) → Type 0
 AreOnce {K} entries = (key : K) (i j : ℕ) → IsAt entries key i → IsAt entries key j → i ≡ j

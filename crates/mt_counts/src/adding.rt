@@ -140,7 +140,7 @@ impl Tables {
     {
         block.list()?;
         self.rows
-            .place_all(block.row_keys.as_slice(), &mut block.rows)?;
+            .place_again(block.row_keys.as_slice(), &mut block.rows)?;
         list_pairs(
             block.rows.as_slice(),
             block.column_keys.as_slice(),
@@ -149,9 +149,9 @@ impl Tables {
         self.both
             .place_all(block.both_keys.as_slice(), &mut block.both)?;
         self.columns
-            .place_all(block.column_keys.as_slice(), &mut block.columns)?;
+            .place_again(block.column_keys.as_slice(), &mut block.columns)?;
         self.alone
-            .place_all(block.alone_keys.as_slice(), &mut block.alone)?;
+            .place_again(block.alone_keys.as_slice(), &mut block.alone)?;
         Ok(())
     }
 

@@ -3,7 +3,7 @@
 ghost use Rattle.std.specs.Prelude.{◌≡◌, ℕ, List as Items, ◌+◌, ◌-◌, ◌^◌, ◌<◌, ◌≤◌, [], length, slice_get, slice_index, Some, IfOk, IfSome, IfNone, IsFalse, IsTrue, OnErr, OnOk, vec_len, vec_capacity};
 ghost use Rattle.std.specs.List.{All, AllZip};
 ghost use Rattle.std.specs.Map.{keys_of};
-ghost use Rattle.mt_counts.specs.Tallies.{AreKeysBelow, AreOnce, Grows, HasKeysBelow, HasPlaced, IsAt, IsPlaced, IsRaised, ListsOnce, each_once};
+ghost use Rattle.mt_counts.specs.Tallies.{AreKeysBelow, AreOnce, Grows, HasKeysBelow, HasPlaced, IsAt, IsHint, IsPlaced, IsRaised, ListsOnce, each_once};
 ghost use Rattle.mt_counts.specs.Totals.{AddUp, IsLowered, count_at, total_of_all};
 
 use super::hasher::PairHasher;
@@ -19,13 +19,28 @@ const LARGE: usize = 1 << 18;
 /// About one of so many notes of a large text is the first one of its pair.
 const NOTES_OF_A_PAIR: usize = 4;
 
+/// So many places are kept at hand, where there are more pairs than `FEW`.
+const HINTS: usize = 4096;
+
+/// Among so few pairs one is found as soon as by a hint.
+const FEW: usize = 64;
+
+/// The place of a pair that was looked for lately.
+#[derive(Clone, Copy, Drop)]
+struct Hint {
+    group: u32,
+    member: u32,
+    place: u32,
+}
+
 /// Counts by pairs of a group and a member, fewer than 2^32 of them. A pair keeps its place, counted from 0, also where its count is 0. The pairs of a group are
-/// found by a chain, from the last to the first.
+/// found by a chain, from the last to the first. Of pairs that come again and again the places are at hand, so that such a pair is found without its hash.
 #[derive(Drop)]
 pub(crate) struct Tally {
     counts: IndexMap<(u32, u32), u64, BuildHasherDefault<PairHasher>>,
     belows: Vec<u32>,
     ends: Vec<u32>,
+    hints: Vec<Hint>,
     sum: u64,
 }
 
@@ -34,12 +49,16 @@ impl Model for Tally {
     ghost use Rattle.std.specs.Prelude.{◌≡◌};
     ghost use Rattle.mt_counts.specs.Chains.{AreChained, classes};
     ghost use Rattle.mt_counts.specs.Totals.{total_of_all};
+    ghost use Rattle.std.specs.List.{All};
+    ghost use Rattle.std.specs.Map.{keys_of};
+    ghost use Rattle.mt_counts.specs.Tallies.{IsHint};
 
     ghost Value = { List ((ℕ × ℕ) × ℕ) };
 
     ghost view = { λ t. t.counts.entries };
 
-    ghost invariant = { λ t. AreChained (classes t.counts.entries) t.belows.items t.ends.items × (length t.counts.entries < 2 ^ 32) × (t.sum ≡ total_of_all t.counts.entries) };
+    ghost invariant = { λ t. AreChained (classes t.counts.entries) t.belows.items t.ends.items × (length t.counts.entries < 2 ^ 32) × (t.sum ≡ total_of_all t.counts.entries)
+        × All (λ hint. IsHint (keys_of t.counts.entries) hint.group hint.member hint.place) t.hints.items };
 }
 
 impl Tally {
@@ -51,6 +70,7 @@ impl Tally {
             counts: IndexMap::with_hasher(alloc, BuildHasherDefault::new()),
             belows: Vec::new(alloc),
             ends: Vec::new(alloc),
+            hints: Vec::new(alloc),
             sum: 0,
         }
     }
@@ -202,6 +222,78 @@ impl Tally {
         Ok(())
     }
 
+    /// Lists the places of some pairs, of which many come again and again. A new pair has the count 0.
+    pub(crate) fn place_again(
+        &mut self,
+        keys: &[(u32, u32)],
+        places: &mut Vec<u32>,
+    ) -> Result<(), NoMemory>
+        ensures grows { Grows self.old self.new }
+        ensures places { OnOk result (AllZip (IsAt self.new) keys.now places.new.items) }
+        ensures below { (groups members : ℕ) → HasKeysBelow groups members self.old → AreKeysBelow groups members keys.now → HasKeysBelow groups members self.new }
+    {
+        places.clear();
+        for k in 0..keys.len() {
+            let (group, member) = keys[k];
+            let place = self.place_known(group, member)?;
+            places.push(place)?;
+        }
+        Ok(())
+    }
+
+    /// The place of a pair that may be at hand. A new pair has the count 0.
+    fn place_known(&mut self, group: u32, member: u32) -> Result<u32, NoMemory>
+        ensures grows { Grows self.old self.new }
+        ensures place { IfOk result (λ place. IsAt self.new (group, member) place) }
+        ensures below { (groups members : ℕ) → HasKeysBelow groups members self.old → group < groups → member < members → HasKeysBelow groups members self.new }
+    {
+        match self.hinted(group, member) {
+            Some(place) => Ok(place),
+            None => {
+                let place = self.place(group, member)?;
+                self.hint(group, member, place);
+                Ok(place)
+            }
+        }
+    }
+
+    /// The place of a pair, where it is at hand.
+    fn hinted(&self, group: u32, member: u32) -> Option<u32>
+        ensures { IfSome result (λ place. IsAt self.now (group, member) place) }
+    {
+        let slot = slot_of(group, member);
+        if slot >= self.hints.len() {
+            return None;
+        }
+        let hint = self.hints[slot];
+        if hint.group == group && hint.member == member {
+            Some(hint.place)
+        } else {
+            None
+        }
+    }
+
+    /// Keeps the place of a pair at hand. Without memory none is.
+    fn hint(&mut self, group: u32, member: u32, place: u32)
+        requires { IsAt self.old (group, member) place }
+        ensures { self.new ≡ self.old }
+    {
+        let hint = Hint {
+            group,
+            member,
+            place,
+        };
+        let slot = slot_of(group, member);
+        if slot < self.hints.len() {
+            self.hints[slot] = hint;
+        } else if self.counts.len() > FEW {
+            match self.hints.resize(HINTS, hint) {
+                Ok(()) => {}
+                Err(_) => {}
+            }
+        }
+    }
+
     /// Adds to the count at a place. It takes no memory.
     pub(crate) fn raise(&mut self, place: usize, by: u64)
         requires few { total_of_all self.old + by < 2 ^ 64 }
@@ -283,6 +375,12 @@ impl Tally {
         }
         Ok(places)
     }
+}
+
+/// Where the place of a pair is kept at hand. Members that follow each other, as the two names of a relation that is read both ways, lie beside each other.
+fn slot_of(group: u32, member: u32) -> usize {
+    let spread = group as u64 * 4 + member as u64 % 4;
+    spread as usize % HINTS
 }
 
 /// Adds one to the count at each of some places.

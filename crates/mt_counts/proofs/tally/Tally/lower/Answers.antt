@@ -4,6 +4,7 @@ use Rattle.indexmap.specs.IndexMap.{set_value_at}
 use Rattle.mt_counts.proofs.Totals.{total-raised, count-within}
 use Rattle.mt_counts.specs.Totals.{total_of_all}
 use Rattle.mt_counts.proofs.Entries.{classes-set, length-written, lowered_at}
+use Rattle.mt_counts.proofs.Hints.{hints_set}
 use Rattle.mt_counts.proofs.tally.Tally.lower.Goals as goal
 
 pub invariant_of-self : goal.invariant_of-self
@@ -13,7 +14,7 @@ invariant_of-self c =
     let there : slice_get entries c.args.place ≡ Some (c.get-count.result.0, c.get-count.result.1) = rw c.self.view_is c.get-count.ensures in
     let raised = lowered_at entries c.args.place c.get-count.result.0 c.get-count.result.1 c.args.by (c.requires.few c.get-count.result.0 c.get-count.result.1 c.get-count.ensures) there in
     let sum = total-raised (λ key. true) (set_value_at entries c.args.place count) entries c.args.place c.args.by raised in
-    (rw (classes-set entries c.args.place count) c.self.invariant.0, omega (arith, length-written entries c.args.place count, c.self.invariant.1), omega (arith, sum, c.self.invariant.2))
+    (rw (classes-set entries c.args.place count) c.self.invariant.0, omega (arith, length-written entries c.args.place count, c.self.invariant.1), omega (arith, sum, c.self.invariant.2), hints_set entries c.self.inside.hints.items c.args.place count c.self.invariant.3)
 
 pub returns : goal.returns
 returns c =

@@ -7,6 +7,7 @@ use Rattle.mt_counts.specs.Chains.{classes}
 use Rattle.mt_counts.specs.Totals.{is_key}
 use Rattle.mt_counts.proofs.Chains.{chained_more, same_ends}
 use Rattle.mt_counts.proofs.Entries.{grows_one, at_end, pair_exact, length-pushed, classes-pushed, pushed_below}
+use Rattle.mt_counts.proofs.Hints.{hints_grown}
 use Rattle.mt_counts.proofs.Placing.{put_behind, place_behind, place_there}
 use Rattle.mt_counts.proofs.tally.Tally.put.Goals as goal
 
@@ -34,6 +35,7 @@ invariant_of-self-in-Ok-default-None c =
           (chained_more (classes entries) c.self.inside.belows.items ends c.args.group chained (c.in-Ok-default-None.place + 1) room (omega (arith, place, count))),
       omega (arith, more, c.len.ensures.len, c.if-len.false),
       c.self.invariant.2 ∙ sym (total-grown (λ key. true) entries news (grows_one entries news (c.args.group, c.args.member) is)),
+      hints_grown entries news c.self.inside.hints.items (grows_one entries news (c.args.group, c.args.member) is) c.self.invariant.3,
     )
 
 pub returns-in-Ok-default-None-clause-grows : goal.returns-in-Ok-default-None-clause-grows
