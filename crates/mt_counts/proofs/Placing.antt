@@ -2,7 +2,7 @@
 use Rattle.std.proofs.Common.{◌≡◌, ℕ, suc, ◌+◌, Bool, true, false, cond, Option, Some, None, List, [], ◌∷◌, ◌++◌, length, slice_get, refl, ap, ◌∙◌, arith, if◌then◌else◌, not}
 use Rattle.std.specs.List.{position_or_len}
 use Rattle.std.specs.Map.{keys_of, lookup}
-use Rattle.indexmap.specs.IndexMap.{insert_entry}
+use Rattle.indexmap.specs.IndexMap.{insert_entry, set_value_at}
 use Rattle.mt_counts.specs.Tallies.{IsAt}
 
 module _ {K : Type 0} (eq : K → K → Bool) (key : K) where
@@ -48,3 +48,23 @@ module _ {K : Type 0} (eq : K → K → Bool) (key : K) where
           let at = rest h in
           let more : 1 + position_or_len (eq key) (keys_of es) ≡ suc (position_or_len (eq key) (keys_of es)) = omega arith in
           record { count = at.count; there = ap (λ (b : Bool). slice_get (e ∷ es) (cond (not b) (1 + position_or_len (eq key) (keys_of es)) 0)) h ∙ ap (λ (n : ℕ). slice_get (e ∷ es) n) more ∙ at.there }
+
+  -- what stands there is as before where its count is put back
+  pub put_back : (es : List (K × ℕ)) (count : ℕ) → Some count ≡ lookup (eq key) es → set_value_at (insert_entry eq es key 0) (position_or_len (eq key) (keys_of es)) count ≡ es
+  put_back [] count some = absurd (let f : ⊥ = cc in f)
+  put_back (e ∷ es) count some = by (eq key e.0) refl (λ (h : eq key e.0 ≡ false). put_back es count (found_behind e es (Some count) some h))
+    where
+      written : Bool → List (K × ℕ)
+      written b = set_value_at (if b then (e.0, 0) ∷ es else e ∷ insert_entry eq es key 0) (cond (not b) (1 + position_or_len (eq key) (keys_of es)) 0) count
+
+      by : (b : Bool) → eq key e.0 ≡ b → (eq key e.0 ≡ false → set_value_at (insert_entry eq es key 0) (position_or_len (eq key) (keys_of es)) count ≡ es) → written (eq key e.0) ≡ e ∷ es
+      by true h rest =
+          let found = found_first e es (Some count) some h in
+          let is : count ≡ e.1 = cc in
+          ap written h ∙ ap (λ (n : ℕ). (e.0, n) ∷ es) is
+      by false h rest =
+          let more : 1 + position_or_len (eq key) (keys_of es) ≡ suc (position_or_len (eq key) (keys_of es)) = omega arith in
+          ap written h ∙ ap (λ (n : ℕ). set_value_at (e ∷ insert_entry eq es key 0) n count) more ∙ ap (λ (ys : List (K × ℕ)). e ∷ ys) (rest h)
+
+  pub put_back_at : (es news : List (K × ℕ)) (place count : ℕ) → place ≡ position_or_len (eq key) (keys_of es) → news ≡ insert_entry eq es key 0 → Some count ≡ lookup (eq key) es → set_value_at news place count ≡ es
+  put_back_at es news place count at are some = ap (λ (ys : List (K × ℕ)). set_value_at ys place count) are ∙ ap (λ (n : ℕ). set_value_at (insert_entry eq es key 0) n count) at ∙ put_back es count some

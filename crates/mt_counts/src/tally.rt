@@ -137,21 +137,9 @@ impl Tally {
         }
     }
 
-    /// The place of a pair. A new pair has the count 0.
+    /// The place of a pair. A new pair comes behind the others, with the count 0. A pair is looked up once: each is put as a new one is, and one that was there has its
+    /// count back.
     pub(crate) fn place(&mut self, group: u32, member: u32) -> Result<u32, NoMemory>
-        ensures grows { Grows self.old self.new }
-        ensures place { IfOk result (λ place. IsAt self.new (group, member) place) }
-        ensures below { (groups members : ℕ) → HasKeysBelow groups members self.old → group < groups → member < members → HasKeysBelow groups members self.new }
-    {
-        match self.find(group, member) {
-            Some(place) => Ok(place),
-            None => self.put(group, member),
-        }
-    }
-
-    /// Puts a new pair behind the others, with the count 0, and gives its place.
-    fn put(&mut self, group: u32, member: u32) -> Result<u32, NoMemory>
-        requires { (place : ℕ) → IsAt self.old (group, member) place → ⊥ }
         ensures grows { Grows self.old self.new }
         ensures place { IfOk result (λ place. IsAt self.new (group, member) place) }
         ensures below { (groups members : ℕ) → HasKeysBelow groups members self.old → group < groups → member < members → HasKeysBelow groups members self.new }
@@ -162,7 +150,10 @@ impl Tally {
         make_place(&mut self.belows)?;
         make_room(&mut self.ends, group as usize)?;
         match self.counts.insert_full((group, member), 0) {
-            Ok((_, Some(_))) => unreachable!(),
+            Ok((place, Some(count))) => {
+                self.counts[place] = count;
+                Ok(place as u32)
+            }
             Ok((place, None)) => {
                 self.belows.push_reserved(self.ends[group as usize]);
                 self.ends[group as usize] = place as u32 + 1;

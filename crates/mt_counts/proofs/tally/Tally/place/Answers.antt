@@ -1,15 +1,13 @@
 use Rattle.std.proofs.Common.{◌≡◌, ℕ, List, ◌+◌, ◌++◌, ◌∷◌, [], get_or, ap, ◌∙◌, sym, true, arith}
 use Rattle.std.proofs.lemmas.List.{get_or_default, length-map}
-use Rattle.std.specs.List.{position_or_len}
-use Rattle.std.specs.Map.{keys_of}
 use Rattle.mt_counts.proofs.Totals.{total-grown}
 use Rattle.mt_counts.specs.Chains.{classes}
 use Rattle.mt_counts.specs.Totals.{is_key}
 use Rattle.mt_counts.proofs.Chains.{chained_more, same_ends}
-use Rattle.mt_counts.proofs.Entries.{grows_one, at_end, pair_exact, length-pushed, classes-pushed, pushed_below}
+use Rattle.mt_counts.proofs.Entries.{grows_none, grows_one, at_end, pair_exact, length-pushed, classes-pushed, pushed_below}
 use Rattle.mt_counts.proofs.Hints.{hints_grown}
-use Rattle.mt_counts.proofs.Placing.{put_behind, place_behind, place_there}
-use Rattle.mt_counts.proofs.tally.Tally.put.Goals as goal
+use Rattle.mt_counts.proofs.Placing.{put_behind, place_behind, place_there, put_back_at}
+use Rattle.mt_counts.proofs.tally.Tally.place.Goals as goal
 
 pub returns-in_err-make_place-clause-below : goal.returns-in_err-make_place-clause-below
 returns-in_err-make_place-clause-below c = rw (← c.self.view_is) (λ groups members h l m. h)
@@ -58,9 +56,31 @@ returns-in-Ok-default-None-clause-below c =
 pub returns-in-Err-clause-below : goal.returns-in-Err-clause-below
 returns-in-Err-clause-below c = let same : c.insert_full.new.self.entries ≡ c.args.self.now = c.in-Err.ensures.err ∙ c.self.view_is in rw same (λ groups members h l m. h)
 
-pub unreachable-requires : goal.unreachable-requires
-unreachable-requires c =
+pub invariant_of-self-in-Ok-default-Some : goal.invariant_of-self-in-Ok-default-Some
+invariant_of-self-in-Ok-default-Some c =
     let entries = c.self.inside.counts.entries in
-    let key : ℕ × ℕ = (c.args.group, c.args.member) in
-    let there = place_there is_key key entries c.in-Ok-default-Some.field-0-1-0 (pair_exact c.args.group c.args.member) (sym c.in-Ok-default-Some.field-0-1-is ∙ c.in-Ok-default-Some.ensures.old) in
-    c.requires (position_or_len (is_key key) (keys_of entries)) (rw (← c.self.view_is) there)
+    let same = put_back_at is_key (c.args.group, c.args.member) entries c.insert_full.new.self.entries c.in-Ok-default-Some.place c.in-Ok-default-Some.count c.in-Ok-default-Some.ensures.index c.in-Ok-default-Some.ensures.entries
+    (sym c.in-Ok-default-Some.field-0-1-is ∙ c.in-Ok-default-Some.ensures.old) in
+    let chained = same_ends (classes entries) c.self.inside.belows.items c.self.inside.ends.items c.make_room.new.ends.items c.in_ok-make_room.ensures.same c.self.invariant.0 in
+    rw (same, c.in_ok-make_place.ensures.same) (chained, c.self.invariant.1, c.self.invariant.2, c.self.invariant.3)
+
+pub returns-in-Ok-default-Some-clause-grows : goal.returns-in-Ok-default-Some-clause-grows
+returns-in-Ok-default-Some-clause-grows c =
+    let entries = c.self.inside.counts.entries in
+    let same = put_back_at is_key (c.args.group, c.args.member) entries c.insert_full.new.self.entries c.in-Ok-default-Some.place c.in-Ok-default-Some.count c.in-Ok-default-Some.ensures.index c.in-Ok-default-Some.ensures.entries
+    (sym c.in-Ok-default-Some.field-0-1-is ∙ c.in-Ok-default-Some.ensures.old) in
+    rw (same, ← c.self.view_is) (grows_none entries)
+
+pub returns-in-Ok-default-Some-clause-place : goal.returns-in-Ok-default-Some-clause-place
+returns-in-Ok-default-Some-clause-place c =
+    let entries = c.self.inside.counts.entries in
+    let same = put_back_at is_key (c.args.group, c.args.member) entries c.insert_full.new.self.entries c.in-Ok-default-Some.place c.in-Ok-default-Some.count c.in-Ok-default-Some.ensures.index c.in-Ok-default-Some.ensures.entries
+    (sym c.in-Ok-default-Some.field-0-1-is ∙ c.in-Ok-default-Some.ensures.old) in
+    rw (same, c.in-Ok-default-Some.ensures.index) (place_there is_key (c.args.group, c.args.member) entries c.in-Ok-default-Some.count (pair_exact c.args.group c.args.member) (sym c.in-Ok-default-Some.field-0-1-is ∙ c.in-Ok-default-Some.ensures.old))
+
+pub returns-in-Ok-default-Some-clause-below : goal.returns-in-Ok-default-Some-clause-below
+returns-in-Ok-default-Some-clause-below c =
+    let entries = c.self.inside.counts.entries in
+    let same = put_back_at is_key (c.args.group, c.args.member) entries c.insert_full.new.self.entries c.in-Ok-default-Some.place c.in-Ok-default-Some.count c.in-Ok-default-Some.ensures.index c.in-Ok-default-Some.ensures.entries
+    (sym c.in-Ok-default-Some.field-0-1-is ∙ c.in-Ok-default-Some.ensures.old) in
+    rw (same, ← c.self.view_is) (λ groups members h l m. h)
