@@ -285,17 +285,6 @@ impl Tally {
         }
     }
 
-    /// Adds to the count at a place. It takes no memory.
-    pub(crate) fn raise(&mut self, place: usize, by: u64)
-        requires few { total_of_all self.old + by < 2 ^ 64 }
-        requires within { place < length self.old }
-        ensures { IsRaised self.old place by self.new }
-    {
-        let (_, count) = self.get(place);
-        self.counts[place] = count + by;
-        self.sum += by;
-    }
-
     /// Adds one to the count at each of some places. It takes no memory.
     pub(crate) fn raise_each(&mut self, places: &[u32])
         requires within { All (λ place. place < length self.old) places.now }
