@@ -1,5 +1,5 @@
 -- Counts over no texts, over one text, and over a whole corpus.
-use Rattle.std.proofs.Common.{◌≡◌, ℕ, zero, suc, ◌<◌, List, [], ◌∷◌, length, get_or, slice_get, slice_index, Some, Result, Ok, Err, refl, sym, ◌∙◌, ap, subst, arith, OnOk}
+use Rattle.std.proofs.Common.{◌≡◌, ℕ, zero, suc, ◌<◌, List, [], ◌∷◌, length, get_or, slice_get, slice_index, Some, Result, Ok, Err, refl, sym, ◌∙◌, ap, subst, arith}
 use Rattle.std.specs.Result.{IsErrAnd}
 use Rattle.mt_text_spec.specs.Registries.{Registry, ValidRegistry}
 use Rattle.mt_text_spec.specs.Texts.{Text, ValidCorpus, ValidText}
@@ -85,11 +85,6 @@ tells_named images corpus name tables number valid is split by = record {
 abbrev error_or : {T E : Type 0} → E → Result T E → E
 error_or d (Ok x) = d
 error_or d (Err e) = e
-
--- what is said of a result that is no error
-pub on_err : {T E : Type 0} (r : Result T E) (e : E) (P : Type 0) → IsErrAnd r (λ (own : E). own ≡ e) → OnOk r P
-on_err (Ok x) e P h = absurd h
-on_err (Err own) e P h = tt
 
 pub same_error : {T E : Type 0} (r : Result T E) (e other : E) → IsErrAnd r (λ (own : E). own ≡ e) → r ≡ Err other → e ≡ other
 same_error (Ok x) e other h is = absurd h

@@ -165,7 +165,7 @@ pub(crate) fn add_segment<'a, P: PatternShop, R: Threads + Sync, L: Ledger>(
     counted
 }
 
-/// Counts the texts of a segment that have these numbers. After an error nothing is known of the counts.
+/// Counts the texts of a segment that have these numbers. After an error nothing is known of the counts, and the memory of large texts is given back.
 pub(crate) fn count_segment<P: PatternShop, R: Threads + Sync, L: Ledger>(
     rt: &R,
     alloc: Global,
@@ -190,7 +190,7 @@ pub(crate) fn count_segment<P: PatternShop, R: Threads + Sync, L: Ledger>(
 {
     let _valid = segment.texts();
     let mut collector = counts.collector(alloc, segment.lexicon(registry.ws_attr()));
-    add_segment(
+    match add_segment(
         rt,
         alloc,
         registry,
@@ -202,9 +202,16 @@ pub(crate) fn count_segment<P: PatternShop, R: Threads + Sync, L: Ledger>(
         &mut counts.buffers,
         shop,
         steps,
-    )?;
-    counts.take(collector);
-    Ok(())
+    ) {
+        Ok(()) => {
+            counts.take(collector);
+            Ok(())
+        }
+        Err(error) => {
+            counts.let_go_where_large(alloc);
+            Err(error)
+        }
+    }
 }
 
 /// Counts the texts of a corpus, one segment after another, each in the memory of the one before, and adds them to the counts over no texts.
