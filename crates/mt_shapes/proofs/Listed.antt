@@ -1,5 +1,6 @@
 -- The rows of a table, one entry and one begin after another.
-use Rattle.std.proofs.Common.{◌≡◌, ℕ, zero, suc, ◌+◌, ◌<◌, ◌≤◌, List, [], ◌∷◌, ◌++◌, length, refl, sym, ◌∙◌, ap, subst, inl, inr, arith, Result, Ok, Err, OnErr}
+use Rattle.std.proofs.Common.{◌≡◌, ℕ, zero, suc, ◌+◌, ◌<◌, ◌≤◌, List, [], ◌∷◌, ◌++◌, length, refl, sym, ◌∙◌, ap, subst, inl, inr, arith, Result, Ok, Err, OnErr, Option, None, Some}
+use Rattle.std.specs.Prelude.{IfOk, IfSome}
 use Rattle.std.specs.declared.cmp.Ordering.{Ordering}
 use Rattle.std.specs.declared.cmp.Ordering.TheVariants.{Less, Equal}
 use Rattle.std.specs.Ordering.{nat_cmp, ordering_then}
@@ -21,7 +22,7 @@ use Rattle.mt_automaton.specs.Windows.{moved, FitsBehind}
 use Rattle.mt_automaton.specs.RowsFrom.{IsRowOfText, HasLonger}
 use Rattle.mt_shapes.specs.declared.table.Entry.{Entry}
 use Rattle.mt_shapes.specs.Shapes.{row_of}
-use Rattle.mt_shapes.specs.Tables.{entry, Fine, Adds, Inside, IsRowBelow, IsRowOf, BeginsBelow}
+use Rattle.mt_shapes.specs.Tables.{entry, Fine, Adds, Inside, IsRowBelow, IsRowOf, TellsRows, BeginsBelow}
 use Rattle.mt_shapes.proofs.Labels.{all_fit, same_row_order}
 use Rattle.mt_shapes.proofs.Meant.{only_of}
 
@@ -330,3 +331,33 @@ appends_renamed P Q room old new there back a = record {
 
 pub longer_renamed : (P Q : Row → Type 0) (room : ℕ) → ((row : Row) → P row → Q row) → HasLonger P room → HasLonger Q room
 longer_renamed P Q room to h = record { rows = h.rows; ascending = h.ascending; only = λ x c. to x (h.only x c); more = h.more }
+
+-- ## What a table tells
+
+pub told_rows : (s : m.Sight) (expr : q.Expr) (tokens : ℕ) (entries : List Entry) → tokens ≡ s.tokens → Adds tokens (Inside tokens (m.Matches s expr)) [] entries → TellsRows entries s expr
+told_rows s expr tokens entries is a = record { there = λ text. row_there s expr text tokens entries is a; back = λ text. row_back s expr text tokens entries is a }
+
+-- where no row is, an empty table tells it
+pub told_nothing : (s : m.Sight) (expr : q.Expr) (entries : List Entry) → entries ≡ [] → ((text : ℕ) (row : Row) → IsRowOfText s expr text row → ⊥) → TellsRows entries s expr
+told_nothing s expr entries e never = record {
+  there = λ text row r. let low = r.is.below in let none : length entries ≡ 0 = ap (λ (es : List Entry). length es) e in absurd (omega (arith, low, none));
+  back = λ text row r. absurd (never text row r);
+}
+
+pub told_same : (s : m.Sight) (one other : q.Expr) (entries : List Entry) → ((b f : ℕ) (l : List ℕ) → m.Matches s one b f l → m.Matches s other b f l) → ((b f : ℕ) (l : List ℕ) → m.Matches s other b f l → m.Matches s one b f l)
+    → TellsRows entries s one → TellsRows entries s other
+told_same s one other entries to from t = record {
+  there = λ text row r. row_same s one other text to row (t.there text row r);
+  back = λ text row r. t.back text row (row_same s other one text from row r);
+}
+
+pub nothing_fine : (tokens : ℕ) (entries : List Entry) → entries ≡ [] → Fine tokens entries
+nothing_fine tokens entries e =
+    let none : length entries ≡ 0 = ap (λ (es : List Entry). length es) e in
+    record { ascending = λ i j l h. absurd (omega (arith, h, none)); suits = λ i l. absurd (omega (arith, l, none)); some = λ i l. absurd (omega (arith, l, none)) }
+
+-- what holds of a table that there may be
+pub if_told : {X E : Type 0} (found : Result (Option X) E) (P Q : X → Type 0) → ((x : X) → P x → Q x) → IfOk found (λ some. IfSome some P) → IfOk found (λ some. IfSome some Q)
+if_told (Ok None) P Q to h = h
+if_told (Ok (Some x)) P Q to h = to x h
+if_told (Err e) P Q to h = h

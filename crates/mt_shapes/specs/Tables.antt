@@ -2,16 +2,19 @@
 use Rattle.std.specs.Prelude.{ℕ, ◌≡◌, ◌+◌, ◌<◌, ◌≤◌, ◌⊎◌, List, [], length, slice_index_or}
 use Rattle.std.specs.declared.cmp.Ordering.TheVariants.{Less}
 use Rattle.mt_text_spec.specs.Texts.{Row}
+use Rattle.mt_text_spec.specs.Queries as q
 use Rattle.mt_match_spec.specs.Matches as m
 use Rattle.mt_match_spec.specs.Labels.{no_labels}
 use Rattle.mt_places.specs.Places.{In}
 use Rattle.mt_automaton.specs.declared.view.Mark.{Mark}
 use Rattle.mt_automaton.specs.Parts.{Seen, Stands, Longer}
 use Rattle.mt_automaton.specs.Windows.{moved}
+use Rattle.mt_automaton.specs.RowsFrom.{IsRowOfText}
 use Rattle.mt_shapes.specs.declared.shape.Shape.{Shape}
 use Rattle.mt_shapes.specs.declared.table.Entry.{Entry}
 use Rattle.mt_shapes.specs.Shapes.{shape_cmp, IsOf, Suits}
 
+-- what stands where a table has no entry
 abbrev pub none : Entry
 none = record { shape = record { length = 0; labels = [] }; begins = [] }
 
@@ -19,6 +22,7 @@ none = record { shape = record { length = 0; labels = [] }; begins = [] }
 abbrev pub entry : List Entry → ℕ → Entry
 entry entries i = slice_index_or entries i none
 
+-- a shape comes before another
 abbrev pub Before : Shape → Shape → Type 0
 Before shape other = shape_cmp shape other ≡ Less
 
@@ -131,6 +135,11 @@ pub record IsRowOf (entries : List Entry) (text : ℕ) (row : Row) : Type 0 wher
   pub text_is : row.span.text ≡ text
   pub some : row.span.begin < row.span.end
   pub is : IsMatchOf entries row.span.begin row.span.end row.labels
+
+-- the rows of a table are those of an expression in a text, whatever number the text has
+pub record TellsRows (entries : List Entry) (s : m.Sight) (expr : q.Expr) : Type 0 where
+  pub there : (text : ℕ) (row : Row) → IsRowOf entries text row → IsRowOfText s expr text row
+  pub back : (text : ℕ) (row : Row) → IsRowOfText s expr text row → IsRowOf entries text row
 
 -- a row of P that begins at a place
 pub record BeginsAt (P : Row → Type 0) (at : ℕ) (row : Row) : Type 0 where

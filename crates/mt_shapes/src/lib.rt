@@ -20,7 +20,7 @@ mod table;
 mod turns;
 mod work;
 
-pub use finding::{rows_by_shapes, rows_of_text};
+pub use finding::{may_have_many, rows_by_shapes, rows_of_text, shapes_of_text};
 pub use shape::Shape;
 pub use table::Entry;
 pub use work::Work;

@@ -74,4 +74,8 @@ impl Work {
             automaton: mt_automaton::Work::new(alloc),
         }
     }
+    /// Takes a table back, so that the next ones take its memory.
+    pub fn give_back(&mut self, entries: Vec<Entry>) {
+        self.maker.give(entries);
+    }
 }
