@@ -1,5 +1,6 @@
 pub mod Sets
 pub mod Rows
+pub mod Gathering
 pub mod Listed
 pub mod Told
 pub mod Spans

@@ -1,9 +1,9 @@
 -- Rows of tests that are made of other rows.
-use Rattle.std.proofs.Common.{◌≡◌, ℕ, ◌+◌, ◌/◌, ◌<◌, ◌≤◌, ◌⊎◌, List, length, get_or, Option, None, Some, Bool, true, false, sym, ◌∙◌, subst, inl, inr, arith}
+use Rattle.std.proofs.Common.{◌≡◌, ℕ, ◌+◌, ◌/◌, ◌<◌, ◌≤◌, ◌⊎◌, List, length, get_or, Option, None, Some, Bool, true, false, sym, ◌∙◌, ap, subst, inl, inr, arith}
 use Rattle.mt_places.specs.Places.{In, room, HasJust}
 use Rattle.mt_match_spec.specs.Tests.{Unless}
 use Rattle.mt_segment_spec.specs.Tables.{Tables, number_at, number_by, tables_at, token_count}
-use Rattle.mt_prepare.specs.TestRows.{IsRow, NumberIsIn}
+use Rattle.mt_prepare.specs.TestRows.{IsRow, NumberIsIn, AreSought, IsSoughtAt}
 
 -- a token has room in a row
 pub has_room : (tokens : ℕ) (P : ℕ → Type 0) (row : List ℕ) → IsRow tokens P row → (place : ℕ) → place < tokens → place < room row
@@ -86,27 +86,43 @@ by_numbers tokens count number T numbers row just fits low is = record {
 }
 
 -- at a base attribute, and at a mapped one
-pub at_base : (tables : Tables) (attr : ℕ) (numbers row : List ℕ) → (tables_at tables.attrs attr).base ≡ None → length row ≡ token_count tables / 64 + 1
-    → HasJust (λ place. (place < token_count tables) × In numbers (get_or (tables_at tables.attrs attr).numbers place 0)) row → IsRow (token_count tables) (NumberIsIn tables attr numbers) row
-at_base tables attr numbers row e width just =
-    subst (λ (b : Option ℕ). IsRow (token_count tables) (λ place. In numbers (number_by (tables_at tables.attrs attr).numbers tables.attrs place b)) row) (sym e) (record { width = width; places = just })
+pub at_base : (tables : Tables) (attr : ℕ) (numbers row : List ℕ) → (tables_at tables.attrs attr).base ≡ None
+    → IsRow (token_count tables) (λ place. In numbers (get_or (tables_at tables.attrs attr).numbers place 0)) row → IsRow (token_count tables) (NumberIsIn tables attr numbers) row
+at_base tables attr numbers row e is =
+    subst (λ (b : Option ℕ). IsRow (token_count tables) (λ place. In numbers (number_by (tables_at tables.attrs attr).numbers tables.attrs place b)) row) (sym e) is
 
-pub at_mapped : (tables : Tables) (attr base : ℕ) (numbers bases row : List ℕ) → (tables_at tables.attrs attr).base ≡ Some base → (count : ℕ) → count ≤ room bases
-    → ((place : ℕ) → place < token_count tables → get_or (tables_at tables.attrs base).numbers place 0 < count)
-    → HasJust (λ n. (n < count) × In numbers (get_or (tables_at tables.attrs attr).numbers n 0)) bases
-    → length row ≡ token_count tables / 64 + 1
-    → HasJust (λ place. (place < token_count tables) × In bases (get_or (tables_at tables.attrs base).numbers place 0)) row → IsRow (token_count tables) (NumberIsIn tables attr numbers) row
-at_mapped tables attr base numbers bases row e count fits low marked width just =
-    subst (λ (b : Option ℕ). IsRow (token_count tables) (λ place. In numbers (number_by (tables_at tables.attrs attr).numbers tables.attrs place b)) row) (sym e)
-    (by_numbers (token_count tables) count (λ place. get_or (tables_at tables.attrs base).numbers place 0) (λ n. In numbers (get_or (tables_at tables.attrs attr).numbers n 0)) bases row marked fits low
-    (record { width = width; places = just }))
+pub at_mapped : (tables : Tables) (attr base : ℕ) (numbers row : List ℕ) → (tables_at tables.attrs attr).base ≡ Some base
+    → IsRow (token_count tables) (λ place. In numbers (get_or (tables_at tables.attrs attr).numbers (get_or (tables_at tables.attrs base).numbers place 0) 0)) row
+    → IsRow (token_count tables) (NumberIsIn tables attr numbers) row
+at_mapped tables attr base numbers row e is =
+    subst (λ (b : Option ℕ). IsRow (token_count tables) (λ place. In numbers (number_by (tables_at tables.attrs attr).numbers tables.attrs place b)) row) (sym e) is
 
 -- a number of a base attribute at a place
 pub base_low : (tables : Tables) (base limit place : ℕ) → (tables_at tables.attrs base).base ≡ None → number_at tables base place < limit → get_or (tables_at tables.attrs base).numbers place 0 < limit
 base_low tables base limit place e h = subst (λ (b : Option ℕ). number_by (tables_at tables.attrs base).numbers tables.attrs place b < limit) e h
 
--- what is filled from a column, by the column's and the count's other names
-pub filled : (tokens count : ℕ) (column list numbers row : List ℕ) → tokens ≡ count → column ≡ list → HasJust (λ place. (place < tokens) × In numbers (get_or column place 0)) row
-    → HasJust (λ place. (place < count) × In numbers (get_or list place 0)) row
-filled tokens count column list numbers row e f just =
-    subst (λ (n : ℕ). HasJust (λ place. (place < n) × In numbers (get_or list place 0)) row) e (subst (λ (values : List ℕ). HasJust (λ place. (place < tokens) × In numbers (get_or values place 0)) row) f just)
+-- the row of the places at which a column has a number that is sought, by the column's and the count's other names
+pub sought_row : (tokens count : ℕ) (column list : List ℕ) (T : ℕ → Type 0) (limit : ℕ) (sought : List Bool) (row : List ℕ) → tokens ≡ count → column ≡ list
+    → AreSought T limit sought → ((place : ℕ) → place < count → get_or list place 0 < limit) → IsRow tokens (IsSoughtAt column sought) row → IsRow count (λ place. T (get_or list place 0)) row
+sought_row tokens count column list T limit sought row e f says low filled =
+    let is : IsRow count (IsSoughtAt list sought) row = subst (λ (n : ℕ). IsRow n (IsSoughtAt list sought) row) e (subst (λ (values : List ℕ). IsRow tokens (IsSoughtAt values sought) row) f filled) in
+    record {
+      width = is.width;
+      places = record {
+        sound = λ k i. let p = is.places.sound k i in (p.0, says.sound (get_or list k 0) p.1);
+        complete = λ k p lt. is.places.complete k (p.0, says.complete (get_or list k 0) (low k p.0) p.1) lt;
+      };
+    }
+
+-- each number of a column is one of which the list says whether it is sought
+pub all_said_of : (tokens count : ℕ) (column list : List ℕ) (T : ℕ → Type 0) (limit : ℕ) (sought : List Bool) → tokens ≡ count → column ≡ list → AreSought T limit sought
+    → ((place : ℕ) → place < count → get_or list place 0 < limit) → (place : ℕ) → place < tokens → get_or column place 0 < length sought
+all_said_of tokens count column list T limit sought e f says low place lt =
+    let same : get_or column place 0 ≡ get_or list place 0 = ap (λ values. get_or values place 0) f in
+    omega (arith, same, low place (omega (arith, lt, e)), says.size)
+
+-- what the list says of the base values, by the table's other name
+pub says_of_table : (table list numbers : List ℕ) (count : ℕ) (sought held : List Bool) → table ≡ list → held ≡ sought → AreSought (λ base. In numbers (get_or table base 0)) count sought
+    → AreSought (λ base. In numbers (get_or list base 0)) count held
+says_of_table table list numbers count sought held e same says =
+    subst (AreSought (λ base. In numbers (get_or list base 0)) count) (sym same) (subst (λ (t : List ℕ). AreSought (λ base. In numbers (get_or t base 0)) count sought) e says)

@@ -1,10 +1,11 @@
 -- Sets that are filled number by number.
-use Rattle.std.proofs.Common.{◌≡◌, ℕ, ◌+◌, ◌*◌, ◌/◌, ◌%◌, ◌<◌, ◌≤◌, ◌⊎◌, List, length, sym, ◌∙◌, ap, subst, inl, inr, arith}
+use Rattle.std.proofs.Common.{◌≡◌, ℕ, ◌+◌, ◌*◌, ◌/◌, ◌%◌, ◌<◌, ◌≤◌, ◌⊎◌, Bool, true, false, List, length, get_or, set, replicate, refl, sym, ◌∙◌, ap, subst, inl, inr, arith, length-set}
 use Rattle.std.specs.Int.{bit_at}
 use Rattle.std.proofs.lemmas.Bool.{cases_eq, cases_lt}
-use Rattle.std.proofs.lemmas.List.{get_or_past}
+use Rattle.std.proofs.lemmas.List.{get_or_past, get_or-set_same, get_or-set_other, get_or-replicate, length-replicate}
 use Rattle.std.proofs.lemmas.Nat.Bits.{bit_at-zero}
 use Rattle.mt_places.specs.Places.{In, bit, room, HasJust}
+use Rattle.mt_prepare.specs.TestRows.{AreSought}
 
 past : (s : List ℕ) (k : ℕ) → 64 * length s ≤ k → bit s k ≡ 0
 unfolding bit
@@ -44,3 +45,48 @@ without_this T set at was never = record {
 -- the same said otherwise
 pub renamed : (P Q : ℕ → Type 0) (set : List ℕ) → HasJust P set → ((k : ℕ) → P k → Q k) → ((k : ℕ) → Q k → P k) → HasJust Q set
 renamed P Q set just on back = record { sound = λ k i. on k (just.sound k i); complete = λ k q lt. just.complete k (back k q) lt }
+
+-- ## Lists that say of each number whether it is sought
+
+-- the numbers below `done` are asked, and what the list says is so
+pub record SaysBelow (T : ℕ → Type 0) (count done : ℕ) (list : List Bool) : Type 0 where
+  pub size : length list ≡ count
+  pub sound : (k : ℕ) → get_or list k false ≡ true → T k
+  pub complete : (k : ℕ) → k < done → T k → get_or list k false ≡ true
+
+said_false : (count k : ℕ) → get_or (replicate count false) k false ≡ false
+said_false count k = elim (cases_lt k count) [
+  | inl lt ↦ get_or-replicate count k false false lt
+  | inr past ↦ get_or_past (replicate count false) k false (omega (arith, past, length-replicate count false))
+]
+
+false_true : false ≡ true → ⊥
+false_true e = cc
+
+pub nothing_said : (T : ℕ → Type 0) (count : ℕ) (list : List Bool) → list ≡ replicate count false → SaysBelow T count 0 list
+nothing_said T count list e = record {
+  size = ap length e ∙ length-replicate count false;
+  sound = λ k t. absurd (false_true (sym (ap (λ s. get_or s k false) e ∙ said_false count k) ∙ t));
+  complete = λ k lt t. absurd (omega (arith, lt));
+}
+
+decided : (b : Bool) → (T : Type 0) → (b ≡ false → T → ⊥) → T → b ≡ true
+decided true T off t = refl
+decided false T off t = absurd (off refl t)
+
+pub one_said : (T : ℕ → Type 0) (count at : ℕ) (list : List Bool) (b : Bool) → at < count → (b ≡ true → T at) → (b ≡ false → T at → ⊥) → SaysBelow T count at list
+    → SaysBelow T count (at + 1) (set list at b)
+one_said T count at list b within on off was = record {
+  size = length-set list at b ∙ was.size;
+  sound = λ k t. elim (cases_eq k at) [
+    | inl e ↦ subst T (sym e) (on (sym (get_or-set_same list at b false (omega (arith, within, was.size))) ∙ ap (λ j. get_or (set list at b) j false) (sym e) ∙ t))
+    | inr other ↦ was.sound k (sym (get_or-set_other list at k b false other) ∙ t)
+  ];
+  complete = λ k lt t. elim (cases_eq k at) [
+    | inl e ↦ ap (λ j. get_or (set list at b) j false) e ∙ get_or-set_same list at b false (omega (arith, within, was.size)) ∙ decided b (T at) off (subst T e t)
+    | inr other ↦ get_or-set_other list at k b false other ∙ was.complete k (omega (arith, lt, other)) t
+  ];
+}
+
+pub all_said : (T : ℕ → Type 0) (count done : ℕ) (list : List Bool) → count ≤ done → SaysBelow T count done list → AreSought T count list
+all_said T count done list le was = record { size = was.size; sound = was.sound; complete = λ k lt t. was.complete k (omega (arith, lt, le)) t }

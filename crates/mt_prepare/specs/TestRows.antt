@@ -1,5 +1,5 @@
 -- Rows of tests: sets of the places of a segment of which tests hold.
-use Rattle.std.specs.Prelude.{ℕ, ◌≡◌, ◌+◌, ◌/◌, ◌<◌, List, [], length, slice_index_or}
+use Rattle.std.specs.Prelude.{ℕ, ◌≡◌, ◌+◌, ◌/◌, ◌<◌, Bool, true, false, List, [], length, slice_index, slice_index_or}
 use Rattle.std.specs.List.{Contains}
 use Rattle.mt_places.specs.Places.{In, HasJust}
 use Rattle.mt_segment_spec.specs.Tables.{Tables, number_at, tables_at}
@@ -39,3 +39,13 @@ pub record IsListedBelow (tables : Tables) (attr : ℕ) (numbers : List ℕ) (ne
   pub below : number < next
   pub is_in : In numbers number
   pub listed : Contains (slice_index_or (tables_at tables.attrs attr).postings number []) place
+
+-- the list says of each number below the count whether P holds of it
+pub record AreSought (P : ℕ → Type 0) (count : ℕ) (sought : List Bool) : Type 0 where
+  pub size : length sought ≡ count
+  pub sound : (number : ℕ) → slice_index_or sought number false ≡ true → P number
+  pub complete : (number : ℕ) → number < count → P number → slice_index_or sought number false ≡ true
+
+-- the number of the column at the place is one of those that are sought
+abbrev pub IsSoughtAt : (column : List ℕ) → (sought : List Bool) → (place : ℕ) → Type 0
+IsSoughtAt column sought place = slice_index_or sought (slice_index column place) false ≡ true

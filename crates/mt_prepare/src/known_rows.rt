@@ -21,6 +21,7 @@ struct KnownRow {
 /// Rows of one segment that were found before: for an attribute and a set of numbers of its values the places whose value has such a number.
 #[derive(Drop)]
 pub struct KnownRows {
+    pub(crate) alloc: Global,
     most: usize,
     rows: Vec<KnownRow>,
 }
@@ -31,6 +32,7 @@ impl KnownRows {
         ensures known { (tables : Tables) → AreKnownIn tables result }
     {
         KnownRows {
+            alloc,
             most,
             rows: Vec::new(alloc),
         }

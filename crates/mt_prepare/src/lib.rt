@@ -1,6 +1,7 @@
 //! Queries made ready for segments: their patterns, each built once, tests of tokens by the numbers of values, and tags as lists of spans.
 #![tactic(auto)]
 
+mod column_rows;
 mod judges;
 mod known_pattern;
 mod known_rows;

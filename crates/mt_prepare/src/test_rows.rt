@@ -5,9 +5,10 @@ ghost use Rattle.std.specs.List.{All, Contains};
 ghost use Rattle.mt_places.specs.Places.{In, HasJust, room};
 ghost use Rattle.mt_match_spec.specs.Tests.{Unless};
 ghost use Rattle.mt_segment_spec.specs.Tables.{number_at, tables_at, token_count};
-ghost use Rattle.mt_prepare.specs.TestRows.{IsRow, SaysAt, HasAttrs, NumberIsIn, AreNumbers};
+ghost use Rattle.mt_prepare.specs.TestRows.{IsRow, SaysAt, HasAttrs, NumberIsIn, AreNumbers, AreSought};
 ghost use Rattle.mt_prepare.specs.KnownRows.{AreKnownIn};
 
+use crate::column_rows::{fill, row_width};
 use crate::known_rows::KnownRows;
 use crate::resolved::Resolved;
 use mt_automaton::Pool;
@@ -15,8 +16,9 @@ use mt_base::{NoMemory, Steps};
 use mt_pattern::IdSet;
 use mt_places::{Below, Places};
 use mt_postings::Postings;
-use mt_segment::{Column, MappedTable, Segment};
+use mt_segment::{MappedTable, Segment};
 use mt_segment_laws::{numbers_stand_for_values, tables_are_whole};
+use std::alloc::Global;
 use std::sync::ledger::Ledger;
 
 /// The places of a segment of which a test holds. What is read of a column or of a posting list is a step each; a row of values that is known is not found again.
@@ -62,14 +64,6 @@ pub fn row_of<L: Ledger>(
             Ok(row)
         }
     }
-}
-
-/// How many words a row of so many tokens has.
-fn row_width(tokens: u32) -> usize
-    ensures is { result ≡ tokens / 64 + 1 }
-    ensures few { result ≤ 67108864 }
-{
-    (tokens / 64) as usize + 1
 }
 
 /// The row of all tokens.
@@ -201,7 +195,7 @@ fn numbers_row<L: Ledger>(
     match known.find(attr, numbers) {
         Some(row) => pool.copy(row),
         None => {
-            let row = new_row(pool, segment, attr, numbers, steps)?;
+            let row = new_row(pool, known.alloc, segment, attr, numbers, steps)?;
             known.keep(pool, attr, numbers, &row);
             Ok(row)
         }
@@ -211,6 +205,7 @@ fn numbers_row<L: Ledger>(
 /// The row of the places where the number of an attribute's value is in a set, from the tables of the segment.
 fn new_row<L: Ledger>(
     pool: &mut Pool,
+    alloc: Global,
     segment: &Segment,
     attr: u16,
     numbers: &Places,
@@ -225,18 +220,19 @@ fn new_row<L: Ledger>(
     if are_rare(segment, attr, numbers) {
         add_lists(&mut row, segment, attr, numbers, steps);
     } else {
-        pass(pool, &mut row, segment, attr, numbers, steps)?;
+        pass(alloc, &mut row, segment, attr, numbers, steps)?;
     }
     Ok(row)
 }
 
-/// Whether the posting lists of these values are so short that to read them is faster than a pass over the column.
+/// Whether the posting lists of these values are so short that to read them is faster than a pass over the column. A place of a list costs some 5 ns, a token of the
+/// column an eighth of that, and what memory a pass takes as much as some 20 places.
 fn are_rare(segment: &Segment, attr: u16, numbers: &Places) -> bool
     requires attr { attr < length segment.now.attrs }
     requires numbers { AreNumbers segment.now attr numbers.now }
 {
     let _count = segment.lexicon(attr).len();
-    let mut left = segment.tokens() / 2;
+    let mut left = segment.tokens() / 8 + 20;
     let mut next = 0;
     while let Some(number) = numbers.first_from(next) {
         let len = segment.postings(attr, number).len();
@@ -290,7 +286,7 @@ fn add_list<L: Ledger>(row: &mut Places, list: &Postings, steps: &mut Steps<L>)
 
 /// Fills an empty row by a pass over the column of the attribute, or of its base.
 fn pass<L: Ledger>(
-    pool: &mut Pool,
+    alloc: Global,
     row: &mut Places,
     segment: &Segment,
     attr: u16,
@@ -304,37 +300,36 @@ fn pass<L: Ledger>(
     ensures rises { steps.old ≤ steps.new }
 {
     match segment.base(attr) {
-        None => {
-            pass_base(row, segment, attr, numbers, steps);
-            Ok(())
-        }
-        Some(base) => pass_mapped(pool, row, segment, attr, base, numbers, steps),
+        None => pass_base(alloc, row, segment, attr, numbers, steps),
+        Some(base) => pass_mapped(alloc, row, segment, attr, base, numbers, steps),
     }
 }
 
-/// Fills an empty row by a pass over the column of a base attribute.
+/// Fills a row by a pass over the column of a base attribute.
 fn pass_base<L: Ledger>(
+    alloc: Global,
     row: &mut Places,
     segment: &Segment,
     attr: u16,
     numbers: &Places,
     steps: &mut Steps<L>,
-)
+) -> Result<(), NoMemory>
     requires attr { attr < length segment.now.attrs }
     requires base { (tables_at segment.now.attrs attr).base ≡ None }
     requires width { length row.old ≡ token_count segment.now / 64 + 1 }
-    requires none { (place : ℕ) → ¬ In row.old place }
-    ensures row { IsRow (token_count segment.now) (NumberIsIn segment.now attr numbers.now) row.new }
+    ensures row { OnOk result (IsRow (token_count segment.now) (NumberIsIn segment.now attr numbers.now) row.new) }
     ensures rises { steps.old ≤ steps.new }
 {
     tables_are_whole();
     let tokens = segment.tokens();
-    fill(row, segment.column(attr), numbers, tokens, steps);
+    let count = segment.lexicon(attr).len();
+    let sought = sought_numbers(alloc, numbers, count)?;
+    fill(alloc, row, segment.column(attr), &sought, tokens, steps)
 }
 
-/// Fills an empty row by a pass over the column of the base of a mapped attribute. Which numbers of the base are sought is found once.
+/// Fills a row by a pass over the column of the base of a mapped attribute.
 fn pass_mapped<L: Ledger>(
-    pool: &mut Pool,
+    alloc: Global,
     row: &mut Places,
     segment: &Segment,
     attr: u16,
@@ -345,53 +340,40 @@ fn pass_mapped<L: Ledger>(
     requires attr { attr < length segment.now.attrs }
     requires mapped { (tables_at segment.now.attrs attr).base ≡ Some base }
     requires width { length row.old ≡ token_count segment.now / 64 + 1 }
-    requires none { (place : ℕ) → ¬ In row.old place }
     ensures row { OnOk result (IsRow (token_count segment.now) (NumberIsIn segment.now attr numbers.now) row.new) }
     ensures rises { steps.old ≤ steps.new }
 {
     tables_are_whole();
     let tokens = segment.tokens();
     let count = segment.lexicon(base).len();
-    let mut bases = pool.none(row_width(count))?;
-    mark_bases(&mut bases, segment.table(attr), numbers, count);
-    fill(row, segment.column(base), &bases, tokens, steps);
-    pool.give(bases);
-    Ok(())
+    let sought = sought_bases(alloc, segment.table(attr), numbers, count)?;
+    fill(alloc, row, segment.column(base), &sought, tokens, steps)
 }
 
-/// Puts the numbers of base values whose image has a number of the set into an empty one.
-fn mark_bases(bases: &mut Places, table: &MappedTable, numbers: &Places, count: u32)
-    requires count { count ≡ length table.now }
-    requires room { count ≤ room bases.old }
-    requires none { (number : ℕ) → ¬ In bases.old number }
-    ensures width { length bases.new ≡ length bases.old }
-    ensures numbers { HasJust (λ base. (base < count) × In numbers.now (slice_index table.now base)) bases.new }
+/// Which numbers below the count are in a set.
+fn sought_numbers(alloc: Global, numbers: &Places, count: u32) -> Result<Vec<bool>, NoMemory>
+    ensures { IfOk result (λ sought. AreSought (In numbers.now) count sought.items) }
 {
-    for base in 0..count {
-        if numbers.contains(table.get(base)) {
-            bases.insert(base);
-        }
+    let mut sought = vec![in alloc; false; count as usize]?;
+    for number in 0..count {
+        sought[number as usize] = numbers.contains(number);
     }
+    Ok(sought)
 }
 
-/// Puts the places at which a column has a number of the set into an empty row.
-fn fill<L: Ledger>(
-    row: &mut Places,
-    column: &Column,
+/// Of which base values, by their numbers, the image has a number of a set.
+fn sought_bases(
+    alloc: Global,
+    table: &MappedTable,
     numbers: &Places,
-    tokens: u32,
-    steps: &mut Steps<L>,
-)
-    requires tokens { tokens ≡ length column.now }
-    requires room { tokens ≤ room row.old }
-    requires none { (place : ℕ) → ¬ In row.old place }
-    ensures width { length row.new ≡ length row.old }
-    ensures places { HasJust (λ place. (place < tokens) × In numbers.now (slice_index column.now place)) row.new }
-    ensures rises { steps.old ≤ steps.new }
+    count: u32,
+) -> Result<Vec<bool>, NoMemory>
+    requires { count ≡ length table.now }
+    ensures { IfOk result (λ sought. AreSought (λ base. In numbers.now (slice_index table.now base)) count sought.items) }
 {
-    for place in 0..tokens {
-        if numbers.contains(column.get(place, steps)) {
-            row.insert(place);
-        }
+    let mut sought = vec![in alloc; false; count as usize]?;
+    for base in 0..count {
+        sought[base as usize] = numbers.contains(table.get(base));
     }
+    Ok(sought)
 }
