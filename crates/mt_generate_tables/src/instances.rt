@@ -3,7 +3,8 @@
 ghost use Rattle.std.specs.Prelude.{◌≡◌, ◌<◌, [], ◌∷◌, ◌++◌, length, map, IfOk, OnOk, List as Items};
 ghost use Rattle.std.specs.List.{range_with_len};
 ghost use Rattle.mt_text_spec.specs.Texts as texts;
-ghost use Rattle.mt_generate_spec.specs.Generated.{document, sentence, sentence_count};
+ghost use Rattle.mt_generate_spec.specs.Generated.{sentence, sentence_count};
+ghost use Rattle.mt_generate_tables.specs.Joined.{AreInstances};
 
 use mt_base::{List, NoMemory, StructSpan, Value};
 use mt_segment::Lists;
@@ -15,7 +16,7 @@ pub(crate) fn instances(
     name: &Value,
     tokens: u32,
 ) -> Result<Lists<StructSpan>, NoMemory>
-    ensures { IfOk result (λ lists. lists ≡ (document name.now tokens ∷ []) ∷ map (sentence tokens) (range_with_len 0 (sentence_count tokens)) ∷ [] ∷ []) }
+    ensures { IfOk result (AreInstances name.now tokens) }
 {
     let mut values = List::with_capacity(alloc, 1)?;
     values.push(name.copy(alloc)?)?;

@@ -26,10 +26,10 @@ pub(crate) fn number_values(
     ensures numbers { IfOk result (λ r. Renumbers r.1.items (values_of column (tokens_in tokens.now)) r.0) }
 {
     let mut values = LexiconBuilder::new(alloc)?;
-    let mut numbers = add_values(alloc, &mut values, tokens, column)?;
+    let numbers = add_values(alloc, &mut values, tokens, column)?;
     let (lexicon, next) = values.finish()?;
-    renumber(numbers.as_mut_slice(), next.as_slice());
-    Ok((lexicon, numbers))
+    let table = renumber(alloc, numbers.as_slice(), next.as_slice())?;
+    Ok((lexicon, table))
 }
 
 /// Adds the values that tokens have in a column, where no values were added before. The numbers are those by first sight.
@@ -71,12 +71,14 @@ fn add_value(
     values.add(row.get(column))
 }
 
-/// Puts in the place of each number what a table has for it.
-pub(crate) fn renumber(numbers: &mut [u32], table: &[u32])
-    requires { All (λ n. n < length table.now) numbers.old }
-    ensures { numbers.new ≡ renumbered table.now numbers.old }
+/// For each number what a table has in its place.
+pub(crate) fn renumber(alloc: Global, numbers: &[u32], table: &[u32]) -> Result<Vec<u32>, NoMemory>
+    requires { All (λ n. n < length table.now) numbers.now }
+    ensures { IfOk result (λ next. next.items ≡ renumbered table.now numbers.now) }
 {
-    for number in numbers.iter_mut() {
-        *number = table[*number as usize];
+    let mut next = Vec::with_capacity(alloc, numbers.len())?;
+    for number in numbers {
+        next.push_reserved(table[*number as usize]);
     }
+    Ok(next)
 }

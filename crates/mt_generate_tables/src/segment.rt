@@ -4,10 +4,10 @@ ghost use Rattle.std.specs.Prelude.{◌≡◌, ℕ, ◌<◌, ◌≤◌, [], ◌�
 ghost use Rattle.std.specs.Thread.{IsSync};
 ghost use Rattle.mt_text_spec.specs.Registries.{ValidRegistry, standard_registry};
 ghost use Rattle.mt_text_spec.specs.Texts.{Token, ValidText, text_tokens_limit};
-ghost use Rattle.mt_generate_spec.specs.Generated.{generated_text};
+ghost use Rattle.mt_generate_spec.specs.Generated.{generated_text, tokens_from};
 ghost use Rattle.mt_segment_spec.specs.Tables.{AreBaseTables, AreTablesOf, AreTablesUnder};
 ghost use Rattle.mt_generate_tables.specs.Numbered.{AreNumbered, tokens_in, values_of};
-ghost use Rattle.mt_generate_tables.specs.Joined.{tables_of};
+ghost use Rattle.mt_generate_tables.specs.Joined.{AreInstances, tables_of};
 
 use super::drawing::{Draws, draw_tokens};
 use super::instances::instances;
@@ -53,9 +53,8 @@ pub fn generated_segment<R: Threads + Sync>(
     requires text { ValidText registry.now (generated_text name seed tokens) }
     ensures { IfOk result (λ segment. (images : Items ℕ → Items ℕ → Items ℕ) → AreTablesOf images registry.now (generated_text name seed tokens ∷ []) segment) }
 {
-    let draws = draw_tokens(alloc, seed, tokens)?;
+    let (draws, structs) = drawn(rt, alloc, &name, seed, tokens)?;
     let (word, tag, lemma) = all_tables(rt, alloc, &draws)?;
-    let structs = instances(alloc, &name, tokens)?;
     let mut texts = List::with_capacity(alloc, 1)?;
     texts.push((name, tokens))?;
     of_columns(alloc, registry, texts, structs, word, tag, lemma)
@@ -63,6 +62,31 @@ pub fn generated_segment<R: Threads + Sync>(
 
 /// The tables of so many tokens take a millisecond or more, far longer than starting threads does.
 const MANY: usize = 1 << 16;
+
+/// The tokens of the seed, so many, and the instances. Those of many tokens are made by another thread while the tokens are drawn.
+fn drawn<R: Threads + Sync>(
+    rt: &R,
+    alloc: Global,
+    name: &Value,
+    seed: u64,
+    tokens: u32,
+) -> Result<(Draws, Lists<StructSpan>), NoMemory>
+    ensures draws { IfOk result (λ pair. AreNumbered (tokens_in pair.0.seen.items) (tokens_from seed 0 tokens) pair.0.numbers.items) }
+    ensures structs { IfOk result (λ pair. AreInstances name.now tokens pair.1) }
+{
+    if (tokens as usize) < MANY || current_num_threads(rt) < 2 {
+        let draws = draw_tokens(alloc, seed, tokens)?;
+        return Ok((draws, instances(alloc, name, tokens)?));
+    }
+    let others = move || -> Result<Lists<StructSpan>, NoMemory>
+        ensures { IfOk result (AreInstances name.entry.now tokens) }
+    { instances(alloc, name, tokens) };
+    let own = move || -> Result<Draws, NoMemory>
+        ensures { IfOk result (λ draws. AreNumbered (tokens_in draws.seen.items) (tokens_from seed 0 tokens) draws.numbers.items) }
+    { draw_tokens(alloc, seed, tokens) };
+    let (structs, draws) = join(rt, others, own);
+    Ok((draws?, structs?))
+}
 
 /// The tables of all three columns of the tokens that were drawn.
 fn all_tables<R: Threads + Sync>(
@@ -127,8 +151,7 @@ fn tables(alloc: Global, draws: &Draws, column: usize) -> Result<ColumnTables, N
     ensures { IfOk result (λ tables. (tokens : Items Token) → AreNumbered (tokens_in draws.now.seen.items) tokens draws.now.numbers.items → AreBaseTables (values_of column tokens) tables) }
 {
     let (lexicon, table) = number_values(alloc, draws.seen.as_slice(), column)?;
-    let mut numbers = Vec::from_slice(alloc, draws.numbers.as_slice())?;
-    renumber(numbers.as_mut_slice(), table.as_slice());
+    let numbers = renumber(alloc, draws.numbers.as_slice(), table.as_slice())?;
     let postings = postings_of(alloc, numbers.as_slice(), lexicon.len() as usize)?;
     Ok(ColumnTables {
         lexicon,

@@ -1,5 +1,4 @@
-use Rattle.std.proofs.Common.{◌≡◌, ◌∙◌, None, List, ℕ, ap, sym, subst, length, refl, slice_index}
-use Rattle.std.proofs.lemmas.List.{with_items_is, length-map}
+use Rattle.std.proofs.Common.{◌≡◌, ◌∙◌, None, List, ℕ, ap₂, sym, subst, length, refl}
 use Rattle.mt_lexicon.specs.Joins.{renumbered}
 use Rattle.mt_store_spec.specs.Lexicons.{IsLexiconOf, Renumbers}
 use Rattle.mt_segment.specs.Parts.{AreInverted}
@@ -11,12 +10,11 @@ use Rattle.mt_generate_tables.proofs.segment.tables.Goals as goal
 pub postings_of-requires-clause-numbers : goal.postings_of-requires-clause-numbers
 postings_of-requires-clause-numbers c =
     let (tokens, h) = c.requires.numbered in
-    let new : c.renumber.new.numbers ≡ renumbered c.in_ok-lexicon.table.items c.args.draws.now.numbers.items =
-    c.renumber.ensures ∙ ap (λ t. renumbered t c.as_mut_slice.result.now) c.as_slice-3.ensures.value ∙ ap (renumbered c.in_ok-lexicon.table.items) (c.as_mut_slice.ensures.value ∙ c.in_ok-numbers.ensures.items ∙ c.as_slice-2.ensures.value) in
-    let count = ap length c.renumber.ensures ∙ length-map c.as_mut_slice.result.now (λ n. slice_index c.as_slice-3.result.now n) ∙ c.as_mut_slice.ensures.len in
-    let read : c.as_slice-4.result.now ≡ renumbered c.in_ok-lexicon.table.items c.args.draws.now.numbers.items = c.as_slice-4.ensures.value ∙ with_items_is c.in_ok-numbers.numbers c.renumber.new.numbers count ∙ new in
-    let numbers = column_numbers c.args.column (tokens_in c.args.draws.now.seen.items) tokens c.args.draws.now.numbers.items h c.in_ok-lexicon.table.items c.in_ok-lexicon.lexicon
-    (subst (λ ds. Renumbers c.in_ok-lexicon.table.items (values_of c.args.column (tokens_in ds)) c.in_ok-lexicon.lexicon) c.as_slice.ensures.value c.in_ok-lexicon.ensures.numbers) in
+    let table = c.in_ok-lexicon.table.items in
+    let drawn = c.args.draws.now.numbers.items in
+    let read : c.as_slice-4.result.now ≡ renumbered table drawn = c.as_slice-4.ensures.value ∙ c.in_ok-numbers.ensures ∙ ap₂ renumbered c.as_slice-3.ensures.value c.as_slice-2.ensures.value in
+    let numbers = column_numbers c.args.column (tokens_in c.args.draws.now.seen.items) tokens drawn h table c.in_ok-lexicon.lexicon
+    (subst (λ ds. Renumbers table (values_of c.args.column (tokens_in ds)) c.in_ok-lexicon.lexicon) c.as_slice.ensures.value c.in_ok-lexicon.ensures.numbers) in
     numbers_low _ c.as_slice-4.result.now _ c.in_ok-lexicon.lexicon c.len.result numbers read c.len.ensures.number
 
 pub returns : goal.returns
@@ -25,12 +23,9 @@ returns c = λ tokens h.
     let seen = tokens_in c.args.draws.now.seen.items in
     let drawn = c.args.draws.now.numbers.items in
     let lexicon = c.in_ok-lexicon.lexicon in
-    let new : c.renumber.new.numbers ≡ renumbered table drawn =
-    c.renumber.ensures ∙ ap (λ t. renumbered t c.as_mut_slice.result.now) c.as_slice-3.ensures.value ∙ ap (renumbered table) (c.as_mut_slice.ensures.value ∙ c.in_ok-numbers.ensures.items ∙ c.as_slice-2.ensures.value) in
-    let count = ap length c.renumber.ensures ∙ length-map c.as_mut_slice.result.now (λ n. slice_index c.as_slice-3.result.now n) ∙ c.as_mut_slice.ensures.len in
-    let items = with_items_is c.in_ok-numbers.numbers c.renumber.new.numbers count in
-    let column : c.new.result ≡ renumbered table drawn = c.new.ensures ∙ c.from_vec.ensures ∙ items ∙ new in
-    let read : c.as_slice-4.result.now ≡ c.new.result = c.as_slice-4.ensures.value ∙ items ∙ new ∙ sym column in
+    let items : c.in_ok-numbers.numbers.items ≡ renumbered table drawn = c.in_ok-numbers.ensures ∙ ap₂ renumbered c.as_slice-3.ensures.value c.as_slice-2.ensures.value in
+    let column : c.new.result ≡ renumbered table drawn = c.new.ensures ∙ c.from_vec.ensures ∙ items in
+    let read : c.as_slice-4.result.now ≡ c.new.result = c.as_slice-4.ensures.value ∙ items ∙ sym column in
     let numbers : Renumbers c.new.result (values_of c.args.column tokens) lexicon =
     rw column (column_numbers c.args.column seen tokens drawn h table lexicon (subst (λ ds. Renumbers table (values_of c.args.column (tokens_in ds)) lexicon) c.as_slice.ensures.value c.in_ok-lexicon.ensures.numbers)) in
     let values : IsLexiconOf (values_of c.args.column tokens) lexicon =
