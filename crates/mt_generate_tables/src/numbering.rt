@@ -28,7 +28,7 @@ pub(crate) fn number_values(
     let mut values = LexiconBuilder::new(alloc)?;
     let numbers = add_values(alloc, &mut values, tokens, column)?;
     let (lexicon, next) = values.finish()?;
-    let table = renumber(alloc, numbers.as_slice(), next.as_slice())?;
+    let table = renumber(Vec::new(alloc), numbers.as_slice(), next.as_slice())?;
     Ok((lexicon, table))
 }
 
@@ -71,14 +71,19 @@ fn add_value(
     values.add(row.get(column))
 }
 
-/// For each number what a table has in its place.
-pub(crate) fn renumber(alloc: Global, numbers: &[u32], table: &[u32]) -> Result<Vec<u32>, NoMemory>
+/// For each number what a table has in its place. A list is written over for it, whose memory serves again.
+pub(crate) fn renumber(
+    mut room: Vec<u32>,
+    numbers: &[u32],
+    table: &[u32],
+) -> Result<Vec<u32>, NoMemory>
     requires { All (λ n. n < length table.now) numbers.now }
     ensures { IfOk result (λ next. next.items ≡ renumbered table.now numbers.now) }
 {
-    let mut next = Vec::with_capacity(alloc, numbers.len())?;
+    room.clear();
+    room.reserve_exact(numbers.len())?;
     for number in numbers {
-        next.push_reserved(table[*number as usize]);
+        room.push_reserved(table[*number as usize]);
     }
-    Ok(next)
+    Ok(room)
 }

@@ -53,46 +53,67 @@ pub fn generated_segment<R: Threads + Sync>(
     requires text { ValidText registry.now (generated_text name seed tokens) }
     ensures { IfOk result (λ segment. (images : Items ℕ → Items ℕ → Items ℕ) → AreTablesOf images registry.now (generated_text name seed tokens ∷ []) segment) }
 {
-    let (draws, structs) = drawn(rt, alloc, &name, seed, tokens)?;
-    let (word, tag, lemma) = all_tables(rt, alloc, &draws)?;
+    let (draws, beside) = drawn(rt, alloc, &name, seed, tokens)?;
+    let (word, tag, lemma) = all_tables(rt, alloc, &draws, beside.word, beside.lemma)?;
     let mut texts = List::with_capacity(alloc, 1)?;
     texts.push((name, tokens))?;
-    of_columns(alloc, registry, texts, structs, word, tag, lemma)
+    of_columns(alloc, registry, texts, beside.structs, word, tag, lemma)
 }
 
 /// The tables of so many tokens take a millisecond or more, far longer than starting threads does.
 const MANY: usize = 1 << 16;
 
-/// The tokens of the seed, so many, and the instances. Those of many tokens are made by another thread while the tokens are drawn.
+/// What is made while the tokens of a text are drawn: the instances, and room for the numbers of two columns.
+#[derive(Drop)]
+struct Beside {
+    structs: Lists<StructSpan>,
+    word: Vec<u32>,
+    lemma: Vec<u32>,
+}
+
+/// The tokens of the seed, so many, and what is made beside them. That of many tokens is made by another thread.
 fn drawn<R: Threads + Sync>(
     rt: &R,
     alloc: Global,
     name: &Value,
     seed: u64,
     tokens: u32,
-) -> Result<(Draws, Lists<StructSpan>), NoMemory>
+) -> Result<(Draws, Beside), NoMemory>
     ensures draws { IfOk result (λ pair. AreNumbered (tokens_in pair.0.seen.items) (tokens_from seed 0 tokens) pair.0.numbers.items) }
-    ensures structs { IfOk result (λ pair. AreInstances name.now tokens pair.1) }
+    ensures structs { IfOk result (λ pair. AreInstances name.now tokens pair.1.structs) }
 {
     if (tokens as usize) < MANY || current_num_threads(rt) < 2 {
         let draws = draw_tokens(alloc, seed, tokens)?;
-        return Ok((draws, instances(alloc, name, tokens)?));
+        return Ok((draws, make_beside(alloc, name, tokens, 0)?));
     }
-    let others = move || -> Result<Lists<StructSpan>, NoMemory>
-        ensures { IfOk result (AreInstances name.entry.now tokens) }
-    { instances(alloc, name, tokens) };
+    let others = move || -> Result<Beside, NoMemory>
+        ensures { IfOk result (λ beside. AreInstances name.entry.now tokens beside.structs) }
+    { make_beside(alloc, name, tokens, tokens as usize) };
     let own = move || -> Result<Draws, NoMemory>
         ensures { IfOk result (λ draws. AreNumbered (tokens_in draws.seen.items) (tokens_from seed 0 tokens) draws.numbers.items) }
     { draw_tokens(alloc, seed, tokens) };
-    let (structs, draws) = join(rt, others, own);
-    Ok((draws?, structs?))
+    let (others, own) = join(rt, others, own);
+    Ok((own?, others?))
 }
 
-/// The tables of all three columns of the tokens that were drawn.
+/// The instances of so many tokens, and two lists with room for so many numbers. These are filled, since memory that was written before is written faster.
+fn make_beside(alloc: Global, name: &Value, tokens: u32, room: usize) -> Result<Beside, NoMemory>
+    ensures { IfOk result (λ beside. AreInstances name.now tokens beside.structs) }
+{
+    Ok(Beside {
+        structs: instances(alloc, name, tokens)?,
+        word: vec![in alloc; 0u32; room]?,
+        lemma: vec![in alloc; 0u32; room]?,
+    })
+}
+
+/// The tables of all three columns of the tokens that were drawn. The numbers of the words and of the lemmas go into these lists.
 fn all_tables<R: Threads + Sync>(
     rt: &R,
     alloc: Global,
     draws: &Draws,
+    word: Vec<u32>,
+    lemma: Vec<u32>,
 ) -> Result<(ColumnTables, ColumnTables, ColumnTables), NoMemory>
     requires numbered { (tokens : Items Token) × AreNumbered (tokens_in draws.now.seen.items) tokens draws.now.numbers.items }
     requires few { length draws.now.numbers.items ≤ text_tokens_limit }
@@ -101,30 +122,31 @@ fn all_tables<R: Threads + Sync>(
     ensures lemma { IfOk result (λ all. (tokens : Items Token) → AreNumbered (tokens_in draws.now.seen.items) tokens draws.now.numbers.items → AreBaseTables (values_of 2 tokens) all.2) }
 {
     if draws.numbers.len() < MANY || current_num_threads(rt) < 2 {
-        let word = tables(alloc, draws, 0)?;
-        let tag = tables(alloc, draws, 1)?;
-        let lemma = tables(alloc, draws, 2)?;
+        let word = tables(alloc, draws, 0, word)?;
+        let tag = tables(alloc, draws, 1, Vec::new(alloc))?;
+        let lemma = tables(alloc, draws, 2, lemma)?;
         return Ok((word, tag, lemma));
     }
     let first = move || -> Result<ColumnTables, NoMemory>
         requires { ((tokens : Items Token) × AreNumbered (tokens_in draws.now.seen.items) tokens draws.now.numbers.items) × (length draws.now.numbers.items ≤ text_tokens_limit) }
         ensures { IfOk result (λ tables. (tokens : Items Token) → AreNumbered (tokens_in draws.entry.now.seen.items) tokens draws.entry.now.numbers.items → AreBaseTables (values_of 0 tokens) tables) }
-    { tables(alloc, draws, 0) };
+    { tables(alloc, draws, 0, word) };
     let others = move || -> Result<(ColumnTables, ColumnTables), NoMemory>
         requires { IsSync R.row × ((tokens : Items Token) × AreNumbered (tokens_in draws.now.seen.items) tokens draws.now.numbers.items) × (length draws.now.numbers.items ≤ text_tokens_limit) }
         ensures tag { IfOk result (λ pair. (tokens : Items Token) → AreNumbered (tokens_in draws.entry.now.seen.items) tokens draws.entry.now.numbers.items → AreBaseTables (values_of 1 tokens) pair.0) }
         ensures lemma { IfOk result (λ pair. (tokens : Items Token) → AreNumbered (tokens_in draws.entry.now.seen.items) tokens draws.entry.now.numbers.items → AreBaseTables (values_of 2 tokens) pair.1) }
-    { last_tables(rt, alloc, draws) };
+    { last_tables(rt, alloc, draws, lemma) };
     let (first, others) = join(rt, first, others);
     let (tag, lemma) = others?;
     Ok((first?, tag, lemma))
 }
 
-/// The tables of the tags and of the lemmas of the tokens that were drawn, made side by side.
+/// The tables of the tags and of the lemmas of the tokens that were drawn, made side by side. The numbers of the lemmas go into this list.
 fn last_tables<R: Threads + Sync>(
     rt: &R,
     alloc: Global,
     draws: &Draws,
+    lemma: Vec<u32>,
 ) -> Result<(ColumnTables, ColumnTables), NoMemory>
     requires numbered { (tokens : Items Token) × AreNumbered (tokens_in draws.now.seen.items) tokens draws.now.numbers.items }
     requires few { length draws.now.numbers.items ≤ text_tokens_limit }
@@ -134,24 +156,29 @@ fn last_tables<R: Threads + Sync>(
     let tag = move || -> Result<ColumnTables, NoMemory>
         requires { ((tokens : Items Token) × AreNumbered (tokens_in draws.now.seen.items) tokens draws.now.numbers.items) × (length draws.now.numbers.items ≤ text_tokens_limit) }
         ensures { IfOk result (λ tables. (tokens : Items Token) → AreNumbered (tokens_in draws.entry.now.seen.items) tokens draws.entry.now.numbers.items → AreBaseTables (values_of 1 tokens) tables) }
-    { tables(alloc, draws, 1) };
+    { tables(alloc, draws, 1, Vec::new(alloc)) };
     let lemma = move || -> Result<ColumnTables, NoMemory>
         requires { ((tokens : Items Token) × AreNumbered (tokens_in draws.now.seen.items) tokens draws.now.numbers.items) × (length draws.now.numbers.items ≤ text_tokens_limit) }
         ensures { IfOk result (λ tables. (tokens : Items Token) → AreNumbered (tokens_in draws.entry.now.seen.items) tokens draws.entry.now.numbers.items → AreBaseTables (values_of 2 tokens) tables) }
-    { tables(alloc, draws, 2) };
+    { tables(alloc, draws, 2, lemma) };
     let (tag, lemma) = join(rt, tag, lemma);
     Ok((tag?, lemma?))
 }
 
-/// The tables of a column of the tokens that were drawn.
-fn tables(alloc: Global, draws: &Draws, column: usize) -> Result<ColumnTables, NoMemory>
+/// The tables of a column of the tokens that were drawn. Its numbers go into this list, which is written over.
+fn tables(
+    alloc: Global,
+    draws: &Draws,
+    column: usize,
+    room: Vec<u32>,
+) -> Result<ColumnTables, NoMemory>
     requires column { column < 3 }
     requires numbered { (tokens : Items Token) × AreNumbered (tokens_in draws.now.seen.items) tokens draws.now.numbers.items }
     requires few { length draws.now.numbers.items ≤ text_tokens_limit }
     ensures { IfOk result (λ tables. (tokens : Items Token) → AreNumbered (tokens_in draws.now.seen.items) tokens draws.now.numbers.items → AreBaseTables (values_of column tokens) tables) }
 {
     let (lexicon, table) = number_values(alloc, draws.seen.as_slice(), column)?;
-    let numbers = renumber(alloc, draws.numbers.as_slice(), table.as_slice())?;
+    let numbers = renumber(room, draws.numbers.as_slice(), table.as_slice())?;
     let postings = postings_of(alloc, numbers.as_slice(), lexicon.len() as usize)?;
     Ok(ColumnTables {
         lexicon,

@@ -17,7 +17,7 @@ of_columns-requires g c =
         corpus = text ∷ [];
         texts = valid_alone c.args.registry.now text c.requires.text;
         some = omega arith;
-        are = rw c.requires.standard (are_its (λ name value. value) c.args.name c.args.seed c.args.tokens c.in_ok-word.word c.in_ok-word.tag c.in_ok-word.lemma c.push.new.self c.in_ok-draws.structs heads c.in_ok-draws.ensures.structs
+        are = rw c.requires.standard (are_its (λ name value. value) c.args.name c.args.seed c.args.tokens c.in_ok-word.word c.in_ok-word.tag c.in_ok-word.lemma c.push.new.self c.in_ok-draws.beside.structs heads c.in_ok-draws.ensures.structs
             (c.in_ok-word.ensures.word drawn c.in_ok-draws.ensures.draws) (c.in_ok-word.ensures.tag drawn c.in_ok-draws.ensures.draws) (c.in_ok-word.ensures.lemma drawn c.in_ok-draws.ensures.draws));
       };
     }
@@ -28,6 +28,6 @@ returns g c =
     let drawn = tokens_from c.args.seed 0 c.args.tokens in
     let heads = c.in_ok-push.ensures.ok ∙ ap (λ texts. texts ++ (c.args.name, c.args.tokens) ∷ []) c.in_ok-texts.ensures in
     IfOk-weaker c.of_columns.result _ (λ segment. (images : List ℕ → List ℕ → List ℕ) → AreTablesOf images c.args.registry.now (text ∷ []) segment)
-    (λ segment is images. subst (AreTablesOf images c.args.registry.now (text ∷ [])) (sym is) (rw c.requires.standard (are_its images c.args.name c.args.seed c.args.tokens c.in_ok-word.word c.in_ok-word.tag c.in_ok-word.lemma c.push.new.self c.in_ok-draws.structs heads c.in_ok-draws.ensures.structs
+    (λ segment is images. subst (AreTablesOf images c.args.registry.now (text ∷ [])) (sym is) (rw c.requires.standard (are_its images c.args.name c.args.seed c.args.tokens c.in_ok-word.word c.in_ok-word.tag c.in_ok-word.lemma c.push.new.self c.in_ok-draws.beside.structs heads c.in_ok-draws.ensures.structs
     (c.in_ok-word.ensures.word drawn c.in_ok-draws.ensures.draws) (c.in_ok-word.ensures.tag drawn c.in_ok-draws.ensures.draws) (c.in_ok-word.ensures.lemma drawn c.in_ok-draws.ensures.draws))))
     c.of_columns.ensures
