@@ -71,7 +71,7 @@ struct Beside {
     lemma: Vec<u32>,
 }
 
-/// The tokens of the seed, so many, and what is made beside them. That of many tokens is made by another thread.
+/// The tokens of the seed, so many, and what is made beside them. That of many tokens is made by other threads.
 fn drawn<R: Threads + Sync>(
     rt: &R,
     alloc: Global,
@@ -83,12 +83,17 @@ fn drawn<R: Threads + Sync>(
     ensures structs { IfOk result (λ pair. AreInstances name.now tokens pair.1.structs) }
 {
     if (tokens as usize) < MANY || current_num_threads(rt) < 2 {
-        let draws = draw_tokens(alloc, seed, tokens)?;
-        return Ok((draws, make_beside(alloc, name, tokens, 0)?));
+        let beside = Beside {
+            structs: instances(alloc, name, tokens)?,
+            word: Vec::new(alloc),
+            lemma: Vec::new(alloc),
+        };
+        return Ok((draw_tokens(alloc, seed, tokens)?, beside));
     }
     let others = move || -> Result<Beside, NoMemory>
+        requires { IsSync R.row }
         ensures { IfOk result (λ beside. AreInstances name.entry.now tokens beside.structs) }
-    { make_beside(alloc, name, tokens, tokens as usize) };
+    { make_beside(rt, alloc, name, tokens) };
     let own = move || -> Result<Draws, NoMemory>
         ensures { IfOk result (λ draws. AreNumbered (tokens_in draws.seen.items) (tokens_from seed 0 tokens) draws.numbers.items) }
     { draw_tokens(alloc, seed, tokens) };
@@ -96,15 +101,33 @@ fn drawn<R: Threads + Sync>(
     Ok((own?, others?))
 }
 
-/// The instances of so many tokens, and two lists with room for so many numbers. These are filled, since memory that was written before is written faster.
-fn make_beside(alloc: Global, name: &Value, tokens: u32, room: usize) -> Result<Beside, NoMemory>
+/// The instances of so many tokens, and room for so many numbers twice, made side by side.
+fn make_beside<R: Threads + Sync>(
+    rt: &R,
+    alloc: Global,
+    name: &Value,
+    tokens: u32,
+) -> Result<Beside, NoMemory>
     ensures { IfOk result (λ beside. AreInstances name.now tokens beside.structs) }
 {
+    let spans = move || -> Result<Lists<StructSpan>, NoMemory>
+        ensures { IfOk result (AreInstances name.entry.now tokens) }
+    { instances(alloc, name, tokens) };
+    let rooms = move || -> Result<(Vec<u32>, Vec<u32>), NoMemory> {
+        Ok((room(alloc, tokens)?, room(alloc, tokens)?))
+    };
+    let (structs, rooms) = join(rt, spans, rooms);
+    let (word, lemma) = rooms?;
     Ok(Beside {
-        structs: instances(alloc, name, tokens)?,
-        word: vec![in alloc; 0u32; room]?,
-        lemma: vec![in alloc; 0u32; room]?,
+        structs: structs?,
+        word,
+        lemma,
     })
+}
+
+/// A list with room for so many numbers. It is filled, since memory that was written before is written faster.
+fn room(alloc: Global, numbers: u32) -> Result<Vec<u32>, NoMemory> {
+    Ok(vec![in alloc; 0u32; numbers as usize]?)
 }
 
 /// The tables of all three columns of the tokens that were drawn. The numbers of the words and of the lemmas go into these lists.
