@@ -3,7 +3,10 @@ use Rattle.std.proofs.Common.{◌≡◌, ℕ, zero, suc, ◌+◌, ◌-◌, ◌<�
 use Rattle.std.specs.List.{Contains}
 use Rattle.std.specs.Option.{option_map}
 use Rattle.std.proofs.lemmas.Bool.{cases_lt, cases_eq}
-use Rattle.std.proofs.lemmas.List.{map_more, length-map, length-set, length-replicate, get_or-replicate, map_push, get_or_append_left, get_or_push, get_or_default, get_or-set_same, get_or-set_other}
+use Rattle.std.proofs.lemmas.Cmp.{nat_eq_equiv}
+use Rattle.std.proofs.lemmas.List.{map_more, length-map, length-set, length-replicate, get_or-replicate, map_push, get_or-map, get_or_append_left, get_or_push, get_or_default, get_or-set_same, get_or-set_other}
+use Rattle.std.proofs.lemmas.Map.Steps.{le-length_from_below}
+use Rattle.std.proofs.lemmas.Map.Views.{list_any-from_Contains}
 use Rattle.std.proofs.lemmas.List.Elements.{All-from_get_or, Contains-append_left, Contains-append_right}
 use Rattle.std.proofs.lemmas.Option.{slice_get-get_or, slice_get_within, slice_get-map, get_or_from_slice_get}
 use Rattle.mt_text_spec.specs.Texts.{Token, value_of}
@@ -31,15 +34,16 @@ module _ {X : Type 0} where
 -- ---- a token more
 
 pub none_numbered : (numbers : List ℕ) → numbers ≡ [] → AreNumbered [] [] numbers
-none_numbered numbers e = rw e (record { count = refl; same = λ k l. absurd (omega arith); only = λ n l. absurd (omega arith); few = omega arith })
+none_numbered numbers e = rw e (record { count = refl; same = λ k l. absurd (omega arith); only = λ n l. absurd (omega arith); few = omega arith; short = omega arith })
 
 pub one_more : (before after tokens : List Token) (numbers : List ℕ) (token : Token) (number : ℕ) → AreNumbered before tokens numbers → Sees before token after number →
-    AreNumbered after (tokens ++ token ∷ []) (numbers ++ number ∷ [])
-one_more before after tokens numbers token number h s = record {
+    length after ≤ 2000 → AreNumbered after (tokens ++ token ∷ []) (numbers ++ number ∷ [])
+one_more before after tokens numbers token number h s short = record {
   count = omega (arith, length-append tokens (token ∷ []), length-append numbers (number ∷ []), h.count);
   same = λ k l. at k l (cases_lt k (length tokens));
   only = λ n l. there n l (cases_lt n (length before));
   few = omega (arith, s.few, h.few, length-append numbers (number ∷ []));
+  short = short;
 }
   where
     at : (k : ℕ) → k < length (tokens ++ token ∷ []) → (k < length tokens) ⊎ (length tokens ≤ k) → slice_get after (get_or (numbers ++ number ∷ []) k 0) ≡ slice_get (tokens ++ token ∷ []) k
@@ -57,12 +61,12 @@ one_more before after tokens numbers token number h s = record {
 
 -- the next token of a seed
 pub one_drawn : (seed count : ℕ) (before after : List Token) (old new : List ℕ) (token : Token) (number from place : ℕ) → AreNumbered before (tokens_from seed 0 count) old → Sees before token after number →
-    token ≡ token_at from place → from ≡ seed → place ≡ count → new ≡ old ++ number ∷ [] → AreNumbered after (tokens_from seed 0 (count + 1)) new
-one_drawn seed count before after old new token number from place h s is same here more =
+    length after ≤ 2000 → token ≡ token_at from place → from ≡ seed → place ≡ count → new ≡ old ++ number ∷ [] → AreNumbered after (tokens_from seed 0 (count + 1)) new
+one_drawn seed count before after old new token number from place h s short is same here more =
     let e : 0 + count ≡ count = omega arith in
     let at : token_at seed (0 + count) ≡ token = ap (token_at seed) e ∙ sym (is ∙ ap₂ token_at same here) in
     let all : tokens_from seed 0 (count + 1) ≡ tokens_from seed 0 count ++ token ∷ [] = map_range_more (token_at seed) 0 count ∙ ap (λ (t : Token). tokens_from seed 0 count ++ t ∷ []) at in
-    rw (all, more) (one_more before after (tokens_from seed 0 count) old token number h s)
+    rw (all, more) (one_more before after (tokens_from seed 0 count) old token number h s short)
 
 -- ---- a token that is seen for the first time
 
@@ -72,7 +76,7 @@ token_in drawn = token_of drawn.rank drawn.plural
 tokens_push : (seen after : List Drawn) (token : Drawn) → after ≡ seen ++ token ∷ [] → tokens_in after ≡ tokens_in seen ++ token_of token.rank token.plural ∷ []
 tokens_push seen after token e = ap tokens_in e ∙ map_push (λ (each : Drawn). token_of each.rank each.plural) seen token
 
-length_tokens : (seen : List Drawn) → length (tokens_in seen) ≡ length seen
+pub length_tokens : (seen : List Drawn) → length (tokens_in seen) ≡ length seen
 length_tokens seen = length-map seen (λ (each : Drawn). token_of each.rank each.plural)
 
 pub seen_first : (seen after : List Drawn) (token : Drawn) (number : ℕ) → number ≡ length seen → after ≡ seen ++ token ∷ [] → Sees (tokens_in seen) (token_of token.rank token.plural) (tokens_in after) number
@@ -88,6 +92,7 @@ pub none_told : (ends : List ℕ) → ends ≡ replicate 2000 0 → TellsEnds en
 none_told ends e = record {
   count = ap length e ∙ length-replicate {A = ℕ} 2000 0;
   at = λ rank plural low pos. absurd (zero_at rank plural low pos);
+  all = λ k l. absurd (omega arith);
 }
   where
     low_code : (rank : ℕ) (plural : Bool) → rank < 1000 → code_of rank plural < 2000
@@ -107,11 +112,27 @@ one_token rank other false false e = ap (λ (r : ℕ). token_of r false) (omega 
 one_token rank other true false e = absurd (omega (arith, e))
 one_token rank other false true e = absurd (omega (arith, e))
 
-pub told_first : (ends : List ℕ) (seen after : List Drawn) (token : Drawn) (code number : ℕ) → TellsEnds ends (tokens_in seen) → code ≡ code_of token.rank token.plural → code < 2000 → number ≡ length seen →
+-- so many tokens can be seen, since each has an end of its own
+pub few_seen : (ends : List ℕ) (seen : List Token) → TellsEnds ends seen → length seen ≤ 2000
+few_seen ends seen h = omega (arith, le-length_from_below numbers (length seen) (λ q l. list_any-from_Contains nat_eq_equiv q numbers (there q (h.all q l))), length-map ends less, h.count)
+  where
+    less : ℕ → ℕ
+    less end = end - 1
+
+    numbers : List ℕ
+    numbers = map less ends
+
+    there : (q : ℕ) → Contains ends (q + 1) → Contains numbers q
+    there q (place, within, is) =
+        let back : q + 1 - 1 ≡ q = omega arith in
+        (place, omega (arith, within, length-map ends less), get_or-map less ends place (q + 1) q within ∙ ap less is ∙ back)
+
+pub told_first : (ends : List ℕ) (seen after : List Drawn) (token : Drawn) (code number : ℕ) → TellsEnds ends (tokens_in seen) → code ≡ code_of token.rank token.plural → code < 2000 → get_or ends code 0 ≡ 0 → number ≡ length seen →
     after ≡ seen ++ token ∷ [] → TellsEnds (set ends code (number + 1)) (tokens_in after)
-told_first ends seen after token code number h is low n e = record {
+told_first ends seen after token code number h is low free n e = record {
   count = length-set ends code (number + 1) ∙ h.count;
   at = λ rank plural l pos. at rank plural l pos (cases_eq (code_of rank plural) code);
+  all = λ k l. all k l (cases_lt k (length (tokens_in seen)));
 }
   where
     more : tokens_in after ≡ tokens_in seen ++ token_of token.rank token.plural ∷ []
@@ -127,6 +148,15 @@ told_first ends seen after token code number h is low n e = record {
         let read : get_or (set ends code (number + 1)) (code_of rank plural) 0 ≡ get_or ends (code_of rank plural) 0 = get_or-set_other ends code (code_of rank plural) (number + 1) 0 differs in
         let before : slice_get (tokens_in seen) (get_or ends (code_of rank plural) 0 - 1) ≡ Some (token_of rank plural) = h.at rank plural l (subst (λ (k : ℕ). 0 < k) read pos) in
         ap₂ slice_get more (ap (λ (k : ℕ). k - 1) read) ∙ get_left (tokens_in seen) (token_of token.rank token.plural ∷ []) (get_or ends (code_of rank plural) 0 - 1) (slice_get_within (tokens_in seen) _ _ before) ∙ before
+
+    all : (k : ℕ) → k < length (tokens_in after) → (k < length (tokens_in seen)) ⊎ (length (tokens_in seen) ≤ k) → Contains (set ends code (number + 1)) (k + 1)
+    all k l (inl m) =
+        let (place, within, is) = h.all k m in
+        let differs : place ≡ code → ⊥ = λ same. omega (arith, ap (λ (j : ℕ). get_or ends j 0) same, get_or_default ends place 0 (k + 1) within, is, free) in
+        (place, omega (arith, within, length-set ends code (number + 1)), get_or-set_other ends code place (number + 1) (k + 1) differs ∙ is)
+    all k l (inr m) =
+        let last : number + 1 ≡ k + 1 = omega (arith, n, l, m, length_tokens seen, ap length more, length-append (tokens_in seen) (token_of token.rank token.plural ∷ [])) in
+        (code, omega (arith, low, h.count, length-set ends code (number + 1)), get_or-set_same ends code (number + 1) (k + 1) (omega (arith, h.count, low)) ∙ last)
 
 -- ---- a value more
 

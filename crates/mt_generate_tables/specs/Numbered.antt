@@ -13,12 +13,13 @@ tokens_in drawn = map (λ each. token_of each.rank each.plural) drawn
 abbrev pub values_of : ℕ → List Token → List (List ℕ)
 values_of column tokens = map (λ token. value_of token column) tokens
 
--- Each token has the number of its like among those seen, and each number is some token's.
+-- Each token has the number of its like among those seen, each number is some token's, and no more are seen than can be drawn.
 pub record AreNumbered (seen tokens : List Token) (numbers : List ℕ) : Type 0 where
   pub count : length numbers ≡ length tokens
   pub same : (place : ℕ) → place < length tokens → slice_get seen (slice_index numbers place) ≡ slice_get tokens place
   pub only : (number : ℕ) → number < length seen → Contains numbers number
   pub few : length seen ≤ length numbers
+  pub short : length seen ≤ 2000
 
 -- The tokens seen before stand where they stood, a token has this number, and none is new but it.
 pub record Sees (before : List Token) (token : Token) (after : List Token) (number : ℕ) : Type 0 where
@@ -32,7 +33,8 @@ pub record Sees (before : List Token) (token : Token) (after : List Token) (numb
 abbrev pub code_of : ℕ → Bool → ℕ
 code_of rank plural = 2 * rank + (if plural then 1 else 0)
 
--- A table tells where the tokens seen are: behind each is what stands in its place, where this is not 0.
+-- A table tells where the tokens seen are: behind each is what stands in its place, where this is not 0. It tells of each of them.
 pub record TellsEnds (ends : List ℕ) (seen : List Token) : Type 0 where
   pub count : length ends ≡ 2000
   pub at : (rank : ℕ) (plural : Bool) → rank < 1000 → 0 < slice_index ends (code_of rank plural) → slice_get seen (slice_index ends (code_of rank plural) - 1) ≡ Some (token_of rank plural)
+  pub all : (k : ℕ) → k < length seen → Contains ends (k + 1)

@@ -15,14 +15,14 @@ const ALL: usize = 2_000;
 #[derive(Drop)]
 pub(crate) struct Draws {
     pub(crate) seen: Vec<Drawn>,
-    pub(crate) numbers: Vec<u32>,
+    pub(crate) numbers: Vec<u16>,
 }
 
 /// The tokens of the seed, so many. Where each of them was seen before is looked up in a table of all that can be drawn.
 pub(crate) fn draw_tokens(alloc: Global, seed: u64, tokens: u32) -> Result<Draws, NoMemory>
     ensures { IfOk result (λ draws. AreNumbered (tokens_in draws.seen.items) (tokens_from seed 0 tokens) draws.numbers.items) }
 {
-    let mut ends = vec![in alloc; 0u32; ALL]?;
+    let mut ends = vec![in alloc; 0u16; ALL]?;
     let mut seen = Vec::new(alloc);
     let mut numbers = Vec::with_capacity(alloc, tokens as usize)?;
     let mut source = Source::new(seed);
@@ -35,9 +35,9 @@ pub(crate) fn draw_tokens(alloc: Global, seed: u64, tokens: u32) -> Result<Draws
 
 /// The number of a token, which is the next one where it is seen for the first time. The table has 0 for a token that was not seen, and for another one more than its
 /// number.
-fn see(ends: &mut [u32], seen: &mut Vec<Drawn>, token: Drawn) -> Result<u32, NoMemory>
+fn see(ends: &mut [u16], seen: &mut Vec<Drawn>, token: Drawn) -> Result<u16, NoMemory>
     requires low { token.rank < 1000 }
-    requires few { length seen.old.items < 2 ^ 32 - 1 }
+    requires few { length seen.old.items < 2 ^ 16 - 1 }
     requires tells { TellsEnds ends.old (tokens_in seen.old.items) }
     ensures tells { OnOk result (TellsEnds ends.new (tokens_in seen.new.items)) }
     ensures number { IfOk result (λ number. Sees (tokens_in seen.old.items) (token_of token.rank token.plural) (tokens_in seen.new.items) number) }
@@ -47,7 +47,7 @@ fn see(ends: &mut [u32], seen: &mut Vec<Drawn>, token: Drawn) -> Result<u32, NoM
     if end > 0 {
         return Ok(end - 1);
     }
-    let number = seen.len() as u32;
+    let number = seen.len() as u16;
     seen.push(token)?;
     ends[code] = number + 1;
     Ok(number)

@@ -1,6 +1,6 @@
 //! The values of tokens, numbered.
 
-ghost use Rattle.std.specs.Prelude.{◌≡◌, ◌-◌, ◌^◌, ◌<◌, length, slice_get, Some, IfOk, OnOk};
+ghost use Rattle.std.specs.Prelude.{◌≡◌, ◌-◌, ◌^◌, ◌<◌, ◌≤◌, length, slice_get, Some, IfOk, OnOk};
 ghost use Rattle.std.specs.List.{All};
 ghost use Rattle.mt_lexicon.specs.Joins.{renumbered};
 ghost use Rattle.mt_store_spec.specs.Lexicons.{IsLexiconOf, Renumbers, seen_with};
@@ -21,7 +21,7 @@ pub(crate) fn number_values(
     column: usize,
 ) -> Result<(Lexicon, Vec<u32>), NoMemory>
     requires column { column < 3 }
-    requires few { length tokens.now < 2 ^ 32 - 1 }
+    requires few { length tokens.now ≤ 2000 }
     ensures lexicon { IfOk result (λ r. IsLexiconOf (values_of column (tokens_in tokens.now)) r.0) }
     ensures numbers { IfOk result (λ r. Renumbers r.1.items (values_of column (tokens_in tokens.now)) r.0) }
 {
@@ -38,10 +38,10 @@ fn add_values(
     values: &mut LexiconBuilder,
     tokens: &[Drawn],
     column: usize,
-) -> Result<Vec<u32>, NoMemory>
+) -> Result<Vec<u16>, NoMemory>
     requires none { length values.old ≡ 0 }
     requires column { column < 3 }
-    requires few { length tokens.now < 2 ^ 32 - 1 }
+    requires few { length tokens.now ≤ 2000 }
     ensures numbered { IfOk result (λ numbers. IsNumbered values.new numbers.items) }
     ensures values { IfOk result (λ numbers. stands_for values.new numbers.items ≡ values_of column (tokens_in tokens.now)) }
 {
@@ -49,7 +49,8 @@ fn add_values(
     let mut text = String::with_capacity(alloc, 5)?;
     let mut numbers = Vec::with_capacity(alloc, tokens.len())?;
     for token in tokens {
-        numbers.push(add_value(values, &mut row, &mut text, *token, column)?)?;
+        let number = add_value(values, &mut row, &mut text, *token, column)?;
+        numbers.push(number as u16)?;
     }
     Ok(numbers)
 }
@@ -74,7 +75,7 @@ fn add_value(
 /// For each number what a table has in its place. A list is written over for it, whose memory serves again.
 pub(crate) fn renumber(
     mut room: Vec<u32>,
-    numbers: &[u32],
+    numbers: &[u16],
     table: &[u32],
 ) -> Result<Vec<u32>, NoMemory>
     requires { All (λ n. n < length table.now) numbers.now }

@@ -21,9 +21,9 @@ loop-token-preserved c =
     let inv = c.loop-token.invariant in
     record {
       count = c.in_ok-push.ensures.len ∙ ap (λ n. n + 1) inv.count;
-      numbered = rw c.in_ok-push.ensures.items (numbered_more c.loop-token.values c.add_value.new.values c.loop-token.numbers.items _ c.in_ok-add_value.field-0 inv.numbered c.in_ok-add_value.ensures.seen c.in_ok-add_value.ensures.number);
-      values_are = value_next c.args.column c.loop-token.token-index c.args.tokens.now _ c.loop-token.values c.add_value.new.values c.loop-token.numbers.items c.push.new.self.items c.in_ok-add_value.field-0
-          c.loop-token-test.true inv.numbered inv.values_are c.in_ok-add_value.ensures.seen c.in_ok-add_value.ensures.number c.in_ok-push.ensures.items;
+      numbered = rw c.in_ok-push.ensures.items (numbered_more c.loop-token.values c.add_value.new.values c.loop-token.numbers.items _ c.in_ok-number.number inv.numbered c.in_ok-number.ensures.seen c.in_ok-number.ensures.number);
+      values_are = value_next c.args.column c.loop-token.token-index c.args.tokens.now _ c.loop-token.values c.add_value.new.values c.loop-token.numbers.items c.push.new.self.items c.in_ok-number.number
+          c.loop-token-test.true inv.numbered inv.values_are c.in_ok-number.ensures.seen c.in_ok-number.ensures.number c.in_ok-push.ensures.items;
     }
 
 pub returns-clause-numbered : goal.returns-clause-numbered
