@@ -5,6 +5,7 @@ pub mod KeptInstances
 pub mod KeptValues
 pub mod LineKinds
 pub mod LineRoles
+pub mod OneColumn
 pub mod OneRole
 pub mod OneText
 pub mod Runs

@@ -1,4 +1,5 @@
 pub mod Causes
+pub mod Columns
 pub mod Lines
 pub mod Readers
 pub mod TagForms

@@ -20,6 +20,7 @@ mod values;
 
 pub use error::{BadLine, TextCause, TextError};
 pub use laws::{no_text_with_fault, one_fault, one_role, one_text, valid_texts};
+pub use lines::token_value;
 use mt_base::{Lines, Registry, Text, Value};
 use reader::Reader;
 use std::alloc::Global;
@@ -54,7 +55,7 @@ pub fn read_text(
 }
 
 /// The bytes without a byte order mark in front.
-fn without_mark(bytes: &[u8]) -> &[u8]
+pub fn without_mark(bytes: &[u8]) -> &[u8]
     ensures { result.now ≡ spec.without_mark bytes.now }
 {
     match bytes.strip_prefix(b"\xEF\xBB\xBF") {

@@ -1,11 +1,13 @@
 //! What a line of a vertical is.
 
-ghost use Rattle.std.specs.Prelude.{◌≡◌, ℕ, ◌↔◌, ◌∷◌, ◌++◌, [], List, IsTrue};
+ghost use Rattle.std.specs.Prelude.{◌≡◌, ℕ, ◌↔◌, ◌∷◌, ◌++◌, [], List, IsTrue, IfSome, IfNone};
 ghost use Rattle.mt_file_spec.specs.VerticalLines.{Encloses, IsSkipped};
-ghost use Rattle.mt_vertical.specs.Lines.{IsLine};
+ghost use Rattle.mt_vertical.specs.Columns.{column_in};
+ghost use Rattle.mt_vertical.specs.Lines.{IsLine, IsToken};
 
 use super::attrs::are_spaces;
 use super::tags::{Tag, read_tag};
+use super::values::column_at;
 
 /// A line, whatever is declared.
 #[derive(Clone, Copy, Debug, Drop)]
@@ -64,5 +66,19 @@ pub fn read_line(line: &str) -> Line
     match read_tag(line) {
         Some(tag) => Line::Tag(tag),
         None => Line::Token,
+    }
+}
+
+/// The value that a line gives its token at the base attribute that has this place among the base attributes, where the line is a token. It may be longer than a
+/// value may be.
+pub fn token_value(line: &str, column: usize) -> Option<&str>
+    ensures token { IfSome result (λ value. IsToken line.now) }
+    ensures value { IfSome result (λ value. value.now ≡ column_in column line.now) }
+    ensures none { IfNone result (¬ IsToken line.now) }
+{
+    match read_line(line) {
+        Line::Skipped => None,
+        Line::Tag(_) => None,
+        Line::Token => Some(column_at(line, column)),
     }
 }

@@ -3,6 +3,7 @@
 ghost use Rattle.std.specs.Prelude.{◌≡◌, ℕ, ◌+◌, ◌∷◌, true, false, List as Items, map, option_map, IfOk, IfSome, IfNone};
 ghost use Rattle.mt_file_spec.specs.Tags.{TagAttr as SpelledAttr, tag_value};
 ghost use Rattle.mt_file_spec.specs.VerticalLines.{columns, first_columns};
+ghost use Rattle.mt_vertical.specs.Columns.{column_in};
 ghost use Rattle.mt_vertical.specs.Readers.{AreShort, HasLong, columns_left};
 ghost use Rattle.mt_vertical.specs.TagReading.{ReadsAttrs};
 
@@ -49,6 +50,17 @@ pub fn column_values(count: usize, line: &str, row: &mut Strings) -> Result<bool
         left = others;
     }
     Ok(true)
+}
+
+/// The column of a line with this number, counted from 0, or the value of one that is not there.
+pub fn column_at(line: &str, column: usize) -> &str
+    ensures { result.now ≡ column_in column line.now }
+{
+    let mut left = Some(line);
+    for _ in 0..column {
+        left = next_column(left).1;
+    }
+    next_column(left).0
 }
 
 /// The values of the attributes of a kind, of those in a tag, or none where one of them is too long.
