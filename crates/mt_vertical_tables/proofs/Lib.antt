@@ -1,0 +1,6 @@
+pub mod Beside
+pub mod Lists
+pub mod Narrow
+pub mod Tables
+pub mod Values
+pub mod Wide

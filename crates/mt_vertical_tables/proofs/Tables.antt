@@ -1,0 +1,138 @@
+-- The tables of one text, put together of those of its columns.
+use Rattle.std.proofs.Common.{◌≡◌, ℕ, zero, suc, ◌<◌, Bool, true, false, cond, Option, None, is_none, is_some, get_or, List, [], ◌∷◌, ◌++◌, length, map, filter, take, refl, sym, ◌∙◌, ap, subst, arith, append-nil}
+use Rattle.std.specs.List.{All, flat_map}
+use Rattle.std.proofs.lemmas.List.{length-map, get_or-map, length-take}
+use Rattle.std.proofs.lemmas.List.Elements.{All-from_get_or, All-head, All-tail, All-take}
+use Rattle.std.proofs.lemmas.List.FromFn.{get_or-map-range_with_len, length-map-range_with_len}
+use Rattle.std.proofs.lemmas.List.Sums.{sum_by-cons}
+use Rattle.std.proofs.lemmas.Option.{none-some}
+use Rattle.mt_text_spec.specs.Registries.{Attr, Registry, ValidRegistry, base_attr, base_count, column_of, is_base}
+use Rattle.mt_text_spec.specs.Texts.{StructSpan, Text, Token, ValidCorpus, ValidText, value_of}
+use Rattle.mt_file_spec.specs.VerticalLines.{Role}
+use Rattle.mt_file_spec.specs.Vertical.{Vertical, text_lines, tokens_in}
+use Rattle.mt_segment_spec.specs.Tables.{AttrTables, AreBaseTables, AreTablesOf, AreTablesUnder, HaveParts, attr_at, attr_values, instances_of, is_of_kind, tables_at, value_by}
+use Rattle.mt_vertical_tables.specs.Columns.{AreColumns}
+use Rattle.mt_vertical_tables.specs.Joined.{AreTablesOfVertical, tables_of}
+use Rattle.mt_vertical_tables.specs.Outlines.{IsOutline}
+use Rattle.mt_vertical_tables.proofs.Wide.{AreKnown, all_wide, instances_same, length_same, read_wide, values_wide}
+
+-- ---- tables in parts
+
+flat : (lists : List (List StructSpan)) → lists ≡ flat_map (λ kind. kind) (map (λ instances. instances ∷ []) lists)
+flat [] = refl
+flat (spans ∷ lists) = ap (λ (all : List (List StructSpan)). spans ∷ all) (flat lists)
+
+-- tables of base attributes are all among those of base attributes, and none among those of mapped ones
+kept_all : (attrs : List AttrTables) → All (λ t. t.base ≡ None) attrs → filter (λ t. is_none t.base) attrs ≡ attrs
+kept_all [] h = refl
+kept_all (t ∷ attrs) h =
+    let e : is_none t.base ≡ true = ap is_none (All-head (λ (t : AttrTables). t.base ≡ None) t attrs h) in
+    ap (λ (b : Bool). cond b (t ∷ filter (λ t. is_none t.base) attrs) (filter (λ t. is_none t.base) attrs)) e ∙ ap (λ (ts : List AttrTables). t ∷ ts) (kept_all attrs (All-tail (λ (t : AttrTables). t.base ≡ None) t attrs h))
+
+kept_none : (attrs : List AttrTables) → All (λ t. t.base ≡ None) attrs → filter (λ t. is_some t.base) attrs ≡ []
+kept_none [] h = refl
+kept_none (t ∷ attrs) h =
+    let e : is_some t.base ≡ false = ap is_some (All-head (λ (t : AttrTables). t.base ≡ None) t attrs h) in
+    ap (λ (b : Bool). cond b (t ∷ filter (λ t. is_some t.base) attrs) (filter (λ t. is_some t.base) attrs)) e ∙ kept_none attrs (All-tail (λ (t : AttrTables). t.base ≡ None) t attrs h)
+
+pub heads_are : (name own : List ℕ) (tokens : ℕ) (none texts : List (List ℕ × ℕ)) → none ≡ [] → own ≡ name → texts ≡ none ++ (own, tokens) ∷ [] → texts ≡ (name, tokens) ∷ []
+heads_are name own tokens none texts e n more = more ∙ ap (λ (ts : List (List ℕ × ℕ)). ts ++ (own, tokens) ∷ []) e ∙ ap (λ (name : List ℕ). (name, tokens) ∷ []) n
+
+pub parts_are : (name : List ℕ) (tokens : ℕ) (structs : List (List StructSpan)) (attrs : List AttrTables) (texts : List (List ℕ × ℕ)) (lexicons : List (List (List ℕ))) (columns mapped : List (List ℕ)) (postings : List (List (List ℕ))) →
+    All (λ t. t.base ≡ None) attrs → texts ≡ (name, tokens) ∷ [] → lexicons ≡ map (λ t. t.lexicon) attrs → columns ≡ map (λ t. t.numbers) attrs → mapped ≡ [] → postings ≡ map (λ t. t.postings) attrs →
+    HaveParts (tables_of name tokens structs attrs) texts lexicons columns mapped postings structs
+parts_are name tokens structs attrs texts lexicons columns mapped postings h t l c m p = record {
+  texts_are = t;
+  lexicons_are = l;
+  columns_are = c ∙ ap (λ (ts : List AttrTables). map (λ t. t.numbers) ts) (sym (kept_all attrs h));
+  mapped_are = m ∙ ap (λ (ts : List AttrTables). map (λ t. t.numbers) ts) (sym (kept_none attrs h));
+  postings_are = p;
+  structs_are = flat structs;
+}
+
+-- ---- base attributes
+
+count_all : (attrs : List Attr) → All (λ attr. attr.base ≡ None) attrs → base_count attrs ≡ length attrs
+count_all [] h = refl
+count_all (attr ∷ attrs) h =
+    let e : is_base attr ≡ true = ap is_none (All-head (λ (a : Attr). a.base ≡ None) attr attrs h) in
+    let one : ◌≡◌ {A = ℕ} (cond (is_base attr) 1 0) 1 = ap (λ (b : Bool). cond {A = ℕ} b 1 0) e in
+    omega (arith, sum_by-cons (λ (a : Attr). cond (is_base a) 1 0) attr attrs, one, count_all attrs (All-tail (λ (a : Attr). a.base ≡ None) attr attrs h))
+
+column_is : (attrs : List Attr) (number : ℕ) → All (λ attr. attr.base ≡ None) attrs → number < length attrs → column_of attrs number ≡ number
+column_is attrs number h l = omega (arith, count_all (take number attrs) (All-take (λ (a : Attr). a.base ≡ None) number attrs h), length-take number attrs)
+
+-- ---- the text
+
+valid_alone : (registry : Registry) (text : Text) → ValidText registry text → ValidCorpus registry (text ∷ [])
+valid_alone registry text h = record {
+  few = omega arith;
+  short = omega (arith, h.short);
+  texts = only;
+  distinct = λ i j d l m. absurd (omega arith);
+}
+  where
+    only : (k : ℕ) (d : Text) → k < 1 → ValidText registry (get_or (text ∷ []) k d)
+    only zero d l = h
+    only (suc k) d l = absurd (omega (arith, l))
+
+module _ (registry : Registry) (name bytes : List ℕ) (tokens : ℕ) (structs : List (List StructSpan)) (attrs : List AttrTables) (bases : All (λ attr. attr.base ≡ None) registry.attrs) (o : IsOutline registry name bytes tokens structs)
+    (k : AreColumns bytes (length registry.attrs) attrs) where
+  abbrev roles : List Role
+  roles = all_wide (base_count registry.attrs) (text_lines bytes) o.read.roles
+
+  abbrev text_of : Text
+  text_of = record { name = name; tokens = tokens_in roles; structs = o.text.structs }
+
+  known : AreKnown registry (text_lines bytes)
+  known column l = let c = k.each column (omega (arith, l, count_all registry.attrs bases)) in (c.values, c.are)
+
+  is_read : Vertical registry name bytes text_of
+  is_read = record {
+    roles = roles;
+    read = read_wide registry 0 (text_lines bytes) o.read.roles known o.read.read;
+    named = refl;
+    tokens = refl;
+    structs = o.read.structs ∙ sym (instances_same (base_count registry.attrs) (length registry.kinds) (text_lines bytes) o.read.roles);
+  }
+
+  pub all_based : All (λ t. t.base ≡ None) attrs
+  all_based = All-from_get_or (λ (t : AttrTables). t.base ≡ None) attrs (tables_at [] 0) (λ number l. (k.each number (omega (arith, l, k.count_is))).made.unmapped)
+
+  module _ (images : List ℕ → List ℕ → List ℕ) where
+    values_are : (number : ℕ) → number < length registry.attrs → (attr_at registry number).base ≡ None → map (λ token. value_of token number) (tokens_in roles) ≡ attr_values images registry (text_of ∷ []) number
+    values_are number l e =
+        let image = images (attr_at registry number).mapper in
+        ap (λ (c : ℕ). map (λ token. value_of token c) (tokens_in roles)) (sym (column_is registry.attrs number bases l))
+        ∙ ap (λ (base : Option ℕ). map (λ token. value_by image registry number token base) (tokens_in roles)) (sym e)
+        ∙ ap (λ (ts : List Token). map (λ token. value_by image registry number token (attr_at registry number).base) ts) (sym (append-nil (tokens_in roles)))
+
+    kind_is : (kind : ℕ) → kind < length registry.kinds → get_or (map (λ instances. instances ∷ []) structs) kind [] ≡ instances_of kind (text_of ∷ [])
+    kind_is kind l =
+        let of_kind : ℕ → List StructSpan = λ kind. filter (is_of_kind kind) o.text.structs in
+        let many : length structs ≡ length registry.kinds = ap length o.instances ∙ length-map-range_with_len of_kind 0 (length registry.kinds) in
+        get_or-map (λ (instances : List StructSpan). instances ∷ []) structs kind [] [] (omega (arith, l, many))
+        ∙ ap (λ (lists : List (List StructSpan)). get_or lists kind [] ∷ []) o.instances ∙ ap (λ (spans : List StructSpan). spans ∷ []) (get_or-map-range_with_len of_kind 0 (length registry.kinds) kind kind [] l (omega arith))
+
+    are_tables : AreTablesOf images registry (text_of ∷ []) (tables_of name tokens structs attrs)
+    are_tables = record {
+      texts = ap (λ (n : ℕ). (name, n) ∷ []) (o.count ∙ ap length o.read.tokens ∙ sym (length_same (base_count registry.attrs) (text_lines bytes) o.read.roles));
+      attr_count = k.count_is;
+      bases = λ number l e.
+          let c = k.each number l in
+          let is = values_wide registry number 0 (text_lines bytes) o.read.roles c.values (omega (arith, l, count_all registry.attrs bases)) o.read.read c.are in
+          subst (λ (vs : List (List ℕ)). AreBaseTables vs (tables_at attrs number)) (is ∙ values_are number l e) c.made;
+      mapped = λ number base l e. absurd (none-some base (sym (bases number (base_attr []) l) ∙ e));
+      kind_count = length-map structs (λ (instances : List StructSpan). instances ∷ []) ∙ ap length o.instances ∙ length-map-range_with_len (λ (kind : ℕ). filter (is_of_kind kind) o.text.structs) 0 (length registry.kinds);
+      structs = kind_is;
+    }
+
+  module _ (valid : ValidRegistry registry) (valid_text : (text : Text) → Vertical registry name bytes text → ValidText registry text) where
+    pub are_under : AreTablesUnder registry (tables_of name tokens structs attrs)
+    are_under = record {
+      images = λ mapper value. value;
+      by = record { valid = valid; corpus = text_of ∷ []; texts = valid_alone registry text_of (valid_text text_of is_read); some = omega arith; are = are_tables (λ mapper value. value) };
+    }
+
+    pub are_of_vertical : AreTablesOfVertical registry name bytes (tables_of name tokens structs attrs)
+    are_of_vertical = (text_of, is_read, valid_text text_of is_read, are_tables)

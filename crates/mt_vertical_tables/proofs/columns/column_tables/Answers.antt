@@ -1,0 +1,27 @@
+use Rattle.std.proofs.Common.{◌≡◌, ◌∙◌, ℕ, List, None, length, refl, ap, sym, subst, arith}
+use Rattle.mt_store_spec.specs.Lexicons.{Renumbers}
+use Rattle.mt_segment.specs.Parts.{AreInverted}
+use Rattle.mt_segment.proofs.Valued.{numbers_low, base_made}
+use Rattle.mt_vertical_tables.proofs.columns.column_tables.Goals as goal
+
+pub postings_of-requires-clause-short : goal.postings_of-requires-clause-short
+postings_of-requires-clause-short c = omega (arith, ap length c.as_slice.ensures.value, c.in_ok-lexicon.ensures.numbers.count, c.in_ok-numbering.ensures.few)
+
+pub postings_of-requires-clause-numbers : goal.postings_of-requires-clause-numbers
+postings_of-requires-clause-numbers c =
+    numbers_low c.in_ok-lexicon.numbers.items c.as_slice.result.now c.in_ok-numbering.numbering c.in_ok-lexicon.lexicon c.len.result c.in_ok-lexicon.ensures.numbers c.as_slice.ensures.value c.len.ensures.number
+
+pub returns : goal.returns
+returns c =
+    let lexicon = c.in_ok-lexicon.lexicon in
+    let values = c.in_ok-numbering.numbering in
+    let column : c.new.result ≡ c.in_ok-lexicon.numbers.items = c.new.ensures ∙ c.from_vec.ensures in
+    let read : c.as_slice.result.now ≡ c.new.result = c.as_slice.ensures.value ∙ sym column in
+    let numbers : Renumbers c.new.result values lexicon = rw column c.in_ok-lexicon.ensures.numbers in
+    let lists : AreInverted c.new.result (length lexicon) c.in_ok-postings.postings =
+    subst (λ (n : ℕ). AreInverted c.new.result n c.in_ok-postings.postings) c.len.ensures.number (subst (λ (ns : List ℕ). AreInverted ns c.len.result c.in_ok-postings.postings) read c.in_ok-postings.ensures) in
+    record {
+      values = values;
+      are = c.in_ok-numbering.ensures.values;
+      made = base_made (record { base = None; lexicon = lexicon; numbers = c.new.result; postings = c.in_ok-postings.postings }) values refl c.in_ok-lexicon.ensures.lexicon numbers lists;
+    }

@@ -1,0 +1,116 @@
+//! The columns of a vertical.
+
+ghost use Rattle.std.specs.Prelude.{◌≡◌, ◌≤◌, [], ◌∷◌, ◌++◌, length, IfOk, OnOk};
+ghost use Rattle.mt_text_spec.specs.Texts.{text_tokens_limit, value_bytes_limit};
+ghost use Rattle.mt_file_spec.specs.Vertical.{text_lines};
+ghost use Rattle.mt_vertical_tables.specs.Columns.{AddsLine, AreColumns, AreValuesIn, IsColumnOf};
+
+use super::numbering::Numbering;
+use super::unmade::Unmade;
+use mt_base::limits::{TEXT_TOKENS_LIMIT, VALUE_BYTES_LIMIT};
+use mt_base::{Lines, List};
+use mt_lexicon::Lexicon;
+use mt_postings::Postings;
+use mt_segment::{Column, postings_of};
+use mt_vertical::{token_value, without_mark};
+use rayon::prelude::*;
+use std::alloc::Global;
+use std::marker::Model;
+use std::str;
+use std::thread::Threads;
+
+/// The tables of a column.
+#[derive(Drop)]
+pub(crate) struct ColumnTables {
+    pub(crate) lexicon: Lexicon,
+    pub(crate) column: Column,
+    pub(crate) postings: List<Postings>,
+}
+
+impl Model for ColumnTables {
+    ghost use Rattle.std.specs.Prelude.{None};
+    ghost use Rattle.mt_segment_spec.specs.Tables as spec;
+
+    ghost Value = { spec.AttrTables };
+
+    ghost view = { λ t. record { base = None; lexicon = t.lexicon; numbers = t.column; postings = t.postings } };
+}
+
+/// The tables of the first columns of a vertical, so many, each made by a thread of its own as far as the machine has them.
+pub(crate) fn all_columns<R: Threads + Sync>(
+    rt: &R,
+    alloc: Global,
+    bytes: &[u8],
+    count: usize,
+) -> Result<Vec<ColumnTables>, Unmade>
+    ensures { IfOk result (λ tables. AreColumns bytes.now count tables.items) }
+{
+    let made: Result<Vec<ColumnTables>, Unmade> = (0..count)
+        .into_par_iter()
+        .with_min_len(1)
+        .map(
+            |column: usize| -> Result<ColumnTables, Unmade>
+                ensures { IfOk result (λ tables. IsColumnOf bytes.entry.now column tables) }
+            { column_tables(alloc, bytes, column) },
+        )
+        .collect(rt, alloc)?;
+    made
+}
+
+/// The tables of a column of a vertical.
+fn column_tables(alloc: Global, bytes: &[u8], column: usize) -> Result<ColumnTables, Unmade>
+    ensures { IfOk result (λ tables. IsColumnOf bytes.now column tables) }
+{
+    let numbering = number_lines(alloc, bytes, column)?;
+    let (lexicon, numbers) = numbering.finish()?;
+    let postings = postings_of(alloc, numbers.as_slice(), lexicon.len() as usize)?;
+    Ok(ColumnTables {
+        lexicon,
+        column: Column::new(List::from_vec(numbers)),
+        postings,
+    })
+}
+
+/// The values in a column of a vertical, numbered.
+fn number_lines(alloc: Global, bytes: &[u8], column: usize) -> Result<Numbering, Unmade>
+    ensures values { IfOk result (λ numbering. AreValuesIn column (text_lines bytes.now) numbering) }
+    ensures few { IfOk result (λ numbering. length numbering ≤ text_tokens_limit) }
+{
+    let mut numbering = Numbering::new(alloc)?;
+    for line in Lines::new(without_mark(bytes)) {
+        add_line(&mut numbering, line, column)?;
+    }
+    Ok(numbering)
+}
+
+/// Adds the value that a line has in a column, if the line is a token.
+fn add_line(numbering: &mut Numbering, line: &[u8], column: usize) -> Result<(), Unmade>
+    requires { length numbering.old ≤ text_tokens_limit }
+    ensures few { OnOk result (length numbering.new ≤ text_tokens_limit) }
+    ensures adds { OnOk result (AddsLine column line.now numbering.old numbering.new) }
+{
+    let Ok(line) = str::from_utf8(line) else {
+        return Err(Unmade::Refused);
+    };
+    match token_value(line, column) {
+        Some(value) => add_value(numbering, value),
+        None => Ok(()),
+    }
+}
+
+/// Adds a value that is short enough, where there is room for one token more.
+fn add_value(numbering: &mut Numbering, value: &str) -> Result<(), Unmade>
+    requires { length numbering.old ≤ text_tokens_limit }
+    ensures few { OnOk result (length numbering.new ≤ text_tokens_limit) }
+    ensures short { OnOk result (length value.now ≤ value_bytes_limit) }
+    ensures added { OnOk result (numbering.new ≡ numbering.old ++ value.now ∷ []) }
+{
+    if VALUE_BYTES_LIMIT < value.len() {
+        return Err(Unmade::Refused);
+    }
+    if numbering.len() >= TEXT_TOKENS_LIMIT {
+        return Err(Unmade::Refused);
+    }
+    numbering.push(value)?;
+    Ok(())
+}
