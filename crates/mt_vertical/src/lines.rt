@@ -69,6 +69,30 @@ pub fn read_line(line: &str) -> Line
     }
 }
 
+/// Whether the first byte alone shows that the line is a token. It does in most lines.
+pub fn begins_as_token(line: &str) -> bool
+    ensures { IsTrue result → IsToken line.now }
+{
+    match line.as_bytes().first() {
+        Some(first) => *first != b' ' && *first != b'<',
+        None => false,
+    }
+}
+
+/// Whether the line is a token.
+fn is_token(line: &str) -> bool
+    ensures { IsTrue result ↔ IsToken line.now }
+{
+    if begins_as_token(line) {
+        return true;
+    }
+    match read_line(line) {
+        Line::Token => true,
+        Line::Skipped => false,
+        Line::Tag(_) => false,
+    }
+}
+
 /// The value that a line gives its token at the base attribute that has this place among the base attributes, where the line is a token. It may be longer than a
 /// value may be.
 pub fn token_value(line: &str, column: usize) -> Option<&str>
@@ -76,9 +100,9 @@ pub fn token_value(line: &str, column: usize) -> Option<&str>
     ensures value { IfSome result (λ value. value.now ≡ column_in column line.now) }
     ensures none { IfNone result (¬ IsToken line.now) }
 {
-    match read_line(line) {
-        Line::Skipped => None,
-        Line::Tag(_) => None,
-        Line::Token => Some(column_at(line, column)),
+    if is_token(line) {
+        Some(column_at(line, column))
+    } else {
+        None
     }
 }

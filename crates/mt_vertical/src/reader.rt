@@ -93,6 +93,9 @@ impl Reader {
         requires sound { IsSound registry.now self.old }
         ensures { IfOk result (λ cause. IsRead registry.now self.old line.now self.new (option_map text_cause_of cause)) }
     {
+        if lines::begins_as_token(line) {
+            return self.read_token(line);
+        }
         match lines::read_line(line) {
             Line::Skipped => Ok(None),
             Line::Tag(tag) => self.read_tag(alloc, registry, tag),

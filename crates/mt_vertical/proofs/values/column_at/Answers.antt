@@ -1,4 +1,3 @@
-use Rattle.std.proofs.Common.{arith}
 use Rattle.mt_vertical.proofs.values.column_at.Goals as goal
 use Rattle.mt_vertical.proofs.OneColumn.{column_passed, column_met}
 
