@@ -27,8 +27,11 @@ use std::thread::Threads;
 /// So many bytes take far longer to read than starting threads does.
 const MANY: usize = 1 << 18;
 
+/// With fewer threads the lines are gone over by one thread sooner than once for each column.
+const FEWEST_THREADS: usize = 3;
+
 /// The segment of the text of this name that the bytes are read as, made by several threads, none of which makes the text. None where that is not the way for
-/// these bytes: they are few, the machine has one thread, an attribute is mapped, or a line has a cause to refuse the text. Nothing more is said of the bytes then,
+/// these bytes: they are few, the machine has few threads, an attribute is mapped, or a line has a cause to refuse the text. Nothing more is said of the bytes then,
 /// and the reader of texts decides.
 pub fn read_tables<R: Threads + Sync>(
     rt: &R,
@@ -42,7 +45,7 @@ pub fn read_tables<R: Threads + Sync>(
     ensures { IfOk result (λ found. IfSome found (λ segment. (text : Text) × Vertical registry.now name.now bytes.now text × ValidText registry.now text ×
         ((images : Items ℕ → Items ℕ → Items ℕ) → AreTablesOf images registry.now (text ∷ []) segment))) }
 {
-    if bytes.len() < MANY || current_num_threads(rt) < 2 {
+    if bytes.len() < MANY || current_num_threads(rt) < FEWEST_THREADS {
         return Ok(None);
     }
     if !are_all_base(registry.attrs().as_slice()) {
