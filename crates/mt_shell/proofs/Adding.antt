@@ -1,11 +1,13 @@
 -- What the replies to `text` and `add` mean.
-use Rattle.std.proofs.Common.{◌≡◌, ◌⊎◌, inl, inr, ℕ, Bool, List, Option, [], ◌∷◌, ◌++◌, length, map, take, refl, sym, ◌∙◌, ap, subst, codes, append-nil}
+use Rattle.std.proofs.Common.{◌≡◌, ◌⊎◌, inl, inr, ℕ, Bool, List, Option, [], ◌∷◌, ◌++◌, length, map, take, refl, sym, ◌∙◌, ap, subst, codes, append-nil, arith, None, Some, IfOk, IfSome, Ok, Err}
+use Rattle.std.specs.Prelude.{sum}
+use Rattle.std.specs.declared.result.Result.{Result}
 use Rattle.std.specs.Fmt.{decimal}
 use Rattle.std.proofs.Math.Seq.{take-append_seam}
 use Rattle.std.proofs.lemmas.List.{length-map}
 use Rattle.std.specs.List.{flat_map}
 use Rattle.mt_text_spec.specs.Lines.{closed}
-use Rattle.mt_text_spec.specs.Registries.{ValidRegistry}
+use Rattle.mt_text_spec.specs.Registries.{Registry, ValidRegistry}
 use Rattle.mt_text_spec.specs.Texts.{Text, ValidText}
 use Rattle.mt_text_spec.specs.Queries.{Grammar}
 use Rattle.mt_shelf_spec.specs.Files.{Files}
@@ -14,8 +16,10 @@ use Rattle.mt_vertical.specs.TextLaws.{OneText, NoTextWithFault}
 use Rattle.mt_rule_spec.specs.Rules.{HasTooManyIn}
 use Rattle.mt_script_spec.specs.Commands.{Text as TextCommand, Add}
 use Rattle.mt_session_spec.specs.World.{Held, World, Holds, IsFull, with_text}
-use Rattle.mt_segment_spec.specs.Tables.{Tables}
-use Rattle.mt_corpus_spec.specs.Images.{Corpus}
+use Rattle.mt_segment_spec.specs.Tables.{Tables, AreTablesOf, token_count}
+use Rattle.mt_corpus_spec.specs.Images.{Corpus, AreImagesBy}
+use Rattle.mt_corpus_spec.specs.Decoded.{images_in}
+use Rattle.mt_decode_laws.specs.Laws.{ImagesAreDecoded}
 use Rattle.mt_corpus.specs.Held.{IsMadeOf}
 use Rattle.mt_corpus.specs.Added.{MayBeKept}
 use Rattle.mt_corpus.specs.Keeping.{AgreeWith}
@@ -34,6 +38,7 @@ use Rattle.mt_answer.specs.declared.reply.Reply.TheVariants.{Lines, NoMemory}
 use Rattle.mt_answer.specs.Replies.{SaysLines, SaysNoMemory, Given}
 use Rattle.mt_shell.specs.Serves.{Kept, Serves, kept}
 use Rattle.mt_shell.specs.Holding.{corpus_in}
+use Rattle.mt_shell.specs.Segments.{IsSegmentOf}
 use Rattle.mt_shell.specs.Answers.{Answers, AnswersAlone, IsRich, Keeps, NoRoom, TooRich, Kept as KeptText, KeptNot, Takes, Faulty, Sound, TakenNot, KeepsText, ReadsText, over}
 use Rattle.mt_shell.proofs.Meanings.{declined, kept_from, starved, no_cause, first_behind, none_both}
 use Rattle.mt_shell.proofs.Shelves.{same_bytes, not_absent, file_is_there, at_file}
@@ -237,3 +242,37 @@ mappers_back {M = M} called image old new rest len l e =
     let pair : M → List ℕ × (List ℕ → List ℕ) = λ mapper. (called mapper, image mapper) in
     let same : length new ≡ length old = sym (length-map new pair) ∙ ap length e ∙ length-map old pair in
     ap (λ (n : ℕ). named called image (take n (new ++ rest))) (sym (same ∙ l)) ∙ ap (named called image) (take-append_seam new rest) ∙ e
+
+-- ## A segment that is made without the text
+
+-- what is found under a registry is found under the one that is held
+pub segment_found : {E : Type 0} (registry held : Registry) (name bytes : List ℕ) (result : Result (Option Tables) E) → registry ≡ held →
+    IfOk result (λ found. IfSome found (λ tables. (text : Text) × Vertical registry name bytes text × ValidText registry text × ((images : List ℕ → List ℕ → List ℕ) → AreTablesOf images registry (text ∷ []) tables))) →
+    IfOk result (λ found. IfSome found (λ tables. IsSegmentOf held name bytes tables))
+segment_found registry held name bytes (Ok (Some tables)) e (text, v, valid, made) = subst (λ (r : Registry). IsSegmentOf r name bytes tables) e (record { text = text; read = v; valid = valid; made = made })
+segment_found registry held name bytes (Ok None) e h = tt
+segment_found registry held name bytes (Err error) e h = tt
+
+pub segment_is : (registry : Registry) (name bytes : List ℕ) (found : Option Tables) (tables : Tables) → found ≡ Some tables → IfSome found (λ tables. IsSegmentOf registry name bytes tables) → IsSegmentOf registry name bytes tables
+segment_is registry name bytes found tables e h = subst (λ (o : Option Tables). IfSome o (λ tables. IsSegmentOf registry name bytes tables)) e h
+
+-- its tokens are those of the text
+pub tokens_told : (registry : Registry) (name bytes : List ℕ) (tables : Tables) (tokens : ℕ) (s : IsSegmentOf registry name bytes tables) → tokens ≡ token_count tables → tokens ≡ length s.text.tokens
+tokens_told registry name bytes tables tokens s e =
+    let heads = (s.made (λ mapper value. value)).texts in
+    let one : ◌≡◌ {A = ℕ} (sum (length s.text.tokens ∷ [])) (length s.text.tokens) = omega arith in
+    e ∙ ap (λ (heads : List (List ℕ × ℕ)). sum (map (λ head. head.1) heads)) heads ∙ one
+
+pub may_keep_read : (state : Kept) (name bytes : List ℕ) (tables : Tables) → (Holds state.held name → ⊥) → (s : IsSegmentOf state.held.registry name bytes tables) → (IsFull state.held.groups (length s.text.tokens) → ⊥) →
+    MayBeKept (corpus_in state) s.text tables
+may_keep_read state name bytes tables free s room = record {
+  valid = s.valid;
+  made = record { images = λ mapper value. value; are = s.made (λ mapper value. value) };
+  free = subst (λ (n : List ℕ). Holds state.held n → ⊥) (sym s.read.named) free;
+  room = room;
+}
+
+-- the images that the tables have are those of any mappers
+pub images_read : (law : ImagesAreDecoded) (images : List ℕ → List ℕ → List ℕ) (registry : Registry) (name bytes : List ℕ) (tables : Tables) → ValidRegistry registry → IsSegmentOf registry name bytes tables →
+    AreImagesBy images (images_in registry tables)
+images_read law images registry name bytes tables valid s = (law images registry (s.text ∷ []) tables valid (s.made images)).own

@@ -7,5 +7,6 @@ pub mod Outsides
 pub mod Fetches
 pub mod Answers
 pub mod Reads
+pub mod Segments
 pub mod Demos
 pub mod Ends

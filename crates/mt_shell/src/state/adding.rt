@@ -1,6 +1,6 @@
 //! `text` and `add`.
 
-ghost use Rattle.std.specs.Prelude.{◌≡◌, ℕ, List, length, IfOk, IfErr, OnOk, OnErr, IsErrOf};
+ghost use Rattle.std.specs.Prelude.{◌≡◌, ℕ, List, length, IfOk, IfErr, IfSome, OnOk, OnErr, IsErrOf};
 ghost use Rattle.mt_shelf_spec.specs.Files.{Files};
 ghost use Rattle.mt_file_spec.specs.Vertical.{Vertical};
 ghost use Rattle.mt_text_spec.specs.Words.{IsName};
@@ -18,18 +18,21 @@ ghost use Rattle.mt_shell.specs.Outsides.{beside};
 ghost use Rattle.mt_shell.specs.Serves.{Serves};
 ghost use Rattle.mt_shell.specs.Holding.{corpus_in};
 ghost use Rattle.mt_shell.specs.Answers.{Answers, AnswersAlone, Stepped, IsRich, KeepsText, ReadsText, over};
+ghost use Rattle.mt_shell.specs.Segments.{IsSegmentOf};
 
 use super::super::edge::Edge;
 use super::super::fetch::{Fetched, fetch};
 use super::State;
 use mt_answer::{Refusal, Reply, count_line, failed, refused};
-use mt_base::{Text, Value};
+use mt_base::{NoMemory, Text, Value};
+use mt_decode_laws::images_are_decoded;
 use mt_grammar_counts::CountError;
 use mt_mapper::Mapper;
 use mt_pattern::PatternShop;
 use mt_segment::Segment;
 use mt_session_laws::held_is_valid;
 use mt_vertical::{TextError, no_text_with_fault, one_text, read_text};
+use mt_vertical_tables::read_tables;
 use std::thread::Threads;
 
 impl<P: PatternShop> State<P> {
@@ -105,10 +108,7 @@ impl<P: PatternShop> State<P> {
         no_text_with_fault();
         let alloc = self.alloc;
         match fetched {
-            Fetched::Whole(bytes) => match self.text_in(name, bytes) {
-                Ok(text) => self.keep_text(rt, text, mappers, shop),
-                Err(reply) => reply,
-            },
+            Fetched::Whole(bytes) => self.read_bytes(rt, name, bytes, mappers, shop),
             Fetched::Absent => refused(alloc, &Refusal::NoSuchFile(file.as_str())),
             Fetched::TooLong => refused(alloc, &Refusal::FileTooLong(file.as_str())),
             Fetched::Failed => failed(alloc, file),
@@ -133,10 +133,74 @@ impl<P: PatternShop> State<P> {
         ensures serves { Serves setting (named M.called M.image mappers.new.items) self.new }
         ensures shop { P.refused shop.new ≡ P.refused shop.old }
     {
-        match self.text_of(name, bytes) {
-            Ok(text) => self.keep_text(rt, text, mappers, shop),
-            Err(reply) => reply,
+        match self.segment_of(rt, name, bytes) {
+            Ok(Some(segment)) => self.keep_read(rt, segment, shop),
+            Ok(None) => match self.text_of(name, bytes) {
+                Ok(text) => self.keep_text(rt, text, mappers, shop),
+                Err(reply) => reply,
+            },
+            Err(NoMemory) => Reply::NoMemory,
         }
+    }
+
+    /// Reads the text that the bytes of a file are, and keeps it. The bytes are let go before, so they take no room beside the text's segment.
+    fn read_bytes<M: Mapper, R: Threads + Sync>(
+        &mut self,
+        rt: &R,
+        name: &Value,
+        bytes: mt_base::List<u8>,
+        mappers: &mut Vec<M>,
+        shop: &mut P,
+    ) -> Reply
+        ghost setting: { Setting }
+        requires named { IsName name.now }
+        requires free { Holds self.old.held name.now → ⊥ }
+        requires serves { Serves setting (named M.called M.image mappers.old.items) self.old }
+        ensures means { ReadsText setting self.old.held name.now bytes result self.new.held }
+        ensures serves { Serves setting (named M.called M.image mappers.new.items) self.new }
+        ensures shop { P.refused shop.new ≡ P.refused shop.old }
+    {
+        match self.segment_of(rt, name, bytes.as_slice()) {
+            Ok(Some(segment)) => {
+                drop(bytes);
+                self.keep_read(rt, segment, shop)
+            }
+            Ok(None) => match self.text_in(name, bytes) {
+                Ok(text) => self.keep_text(rt, text, mappers, shop),
+                Err(reply) => reply,
+            },
+            Err(NoMemory) => Reply::NoMemory,
+        }
+    }
+
+    /// The segment of the text of this name that these bytes are, if it can be made without the text.
+    fn segment_of<R: Threads + Sync>(
+        &self,
+        rt: &R,
+        name: &Value,
+        bytes: &[u8],
+    ) -> Result<Option<Segment>, NoMemory>
+        requires { IsName name.now }
+        ensures { IfOk result (λ found. IfSome found (λ segment. IsSegmentOf self.now.held.registry name.now bytes.now segment)) }
+    {
+        read_tables(rt, self.alloc, self.corpus.registry(), name, bytes)
+    }
+
+    /// Keeps the segment of a text whose name is free, if there is room for it.
+    fn keep_read<R: Threads + Sync>(&mut self, rt: &R, segment: Segment, shop: &mut P) -> Reply
+        ghost setting: { Setting }
+        requires read { (name : List ℕ) × (bytes : List ℕ) × (Holds self.old.held name → ⊥) × IsSegmentOf self.old.held.registry name bytes segment }
+        requires taken { AreImagesBy (images_of setting) self.old.taken }
+        ensures means { (name bytes : List ℕ) → (Holds self.old.held name → ⊥) → IsSegmentOf self.old.held.registry name bytes segment → ReadsText setting self.old.held name bytes result self.new.held }
+        ensures serves { (mappers : List (List ℕ × (List ℕ → List ℕ))) → Serves setting mappers self.old → Serves setting mappers self.new }
+        ensures shop { P.refused shop.new ≡ P.refused shop.old }
+    {
+        images_are_decoded();
+        let tokens = segment.tokens() as usize;
+        if self.corpus.is_full(tokens) {
+            return refused(self.alloc, &Refusal::CorpusFull);
+        }
+        self.keep_made(rt, tokens, segment, shop)
     }
 
     /// The text of this name that the bytes of a file are, or the reply where they are none. The bytes are let go, so they take no room beside the text's segment.

@@ -1,25 +1,14 @@
-use Rattle.std.proofs.Common.{ℕ, List, sym, subst}
-use Rattle.mt_session_spec.specs.World.{Holds, ValidHeld}
+use Rattle.std.proofs.Common.{subst}
+use Rattle.mt_session_spec.specs.World.{ValidHeld}
 use Rattle.mt_shell.specs.Serves.{Kept}
 use Rattle.mt_shell.specs.Fetches.{gained_of}
-use Rattle.mt_shell.proofs.Adding.{add_absent, add_too_long, add_failed, add_starved, add_read, sound}
+use Rattle.mt_shell.proofs.Adding.{add_absent, add_too_long, add_failed, add_starved, add_read}
 use Rattle.mt_shell.proofs.state.State.take_file.Goals as goal
 
-pub keep_text-requires : goal.keep_text-requires
-keep_text-requires g c = λ κs h.
-    let free = subst (λ (n : List ℕ). Holds c.args.self.now.held n → ⊥) (sym c.in-Ok.ensures.text.named) c.requires.1.1.1.1.1.1.1.0 in
-    (h.0, (h.1.0, (h.1.1.0, (h.1.1.1, (c.requires.1.1.1.1.0, (c.requires.1.1.1.1.1.0, (free, (c.in-Ok.ensures.valid, c.requires.1.1.1.1.1.1.1.1))))))))
-
-pub returns-in-Ok-clause-means : goal.returns-in-Ok-clause-means
-returns-in-Ok-clause-means g c =
-    rw c.in-Whole.is (λ files f. add_read (record { one_text = c.one_text.ensures; no_fault = c.no_text_with_fault.ensures }) g.setting c.args.self.now.held c.keep_text.new.self.held c.args.name.now c.args.file.now c.in-Whole.bytes c.keep_text.result files
-    (subst (λ (k : Kept). ValidHeld k.held) c.self.view_is c.self.invariant.held).registry c.requires.1.1.1.1.1.1.1.0 f
-    (sound g.setting c.args.self.now.held c.keep_text.new.self.held c.args.name.now c.in-Whole.bytes c.in-Ok.text c.keep_text.result c.in-Ok.ensures.text c.keep_text.ensures.means))
-
-pub returns-in-Err-clause-means : goal.returns-in-Err-clause-means
-returns-in-Err-clause-means g c =
-    rw c.in-Whole.is (λ files f. add_read (record { one_text = c.one_text.ensures; no_fault = c.no_text_with_fault.ensures }) g.setting c.args.self.now.held c.args.self.now.held c.args.name.now c.args.file.now c.in-Whole.bytes c.in-Err.reply files
-    (subst (λ (k : Kept). ValidHeld k.held) c.self.view_is c.self.invariant.held).registry c.requires.1.1.1.1.1.1.1.0 f (c.in-Err.ensures.reply g.setting))
+pub returns-in-Whole-clause-means : goal.returns-in-Whole-clause-means
+returns-in-Whole-clause-means g c =
+    rw c.in-Whole.is (λ files f. add_read (record { one_text = c.one_text.ensures; no_fault = c.no_text_with_fault.ensures }) g.setting c.args.self.now.held c.read_bytes.new.self.held c.args.name.now c.args.file.now c.in-Whole.bytes
+    c.read_bytes.result files (subst (λ (k : Kept). ValidHeld k.held) c.self.view_is c.self.invariant.held).registry c.requires.1.1.1.1.1.1.1.0 f c.read_bytes.ensures.means)
 
 pub returns-in-Absent-clause-means : goal.returns-in-Absent-clause-means
 returns-in-Absent-clause-means g c = rw c.in-Absent.is (λ files a. add_absent g.setting c.args.self.now.held c.args.name.now c.args.file.now c.refused.result files c.requires.1.1.1.1.1.1.1.0 a (rw c.as_str.ensures at c.refused.ensures))

@@ -1,4 +1,4 @@
 use Rattle.mt_shell.proofs.state.State.take_file.Given as goal
 
-abbrev pub ghost-keep_text : goal.ghost-keep_text
-ghost-keep_text g a = g.setting
+abbrev pub ghost-read_bytes : goal.ghost-read_bytes
+ghost-read_bytes g a = g.setting
