@@ -1,5 +1,4 @@
 pub mod Labels
-pub mod Values
 pub mod Marks
 pub mod Rooms
 pub mod Filtered

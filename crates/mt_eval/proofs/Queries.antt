@@ -14,8 +14,9 @@ use Rattle.mt_segment_spec.specs.Tables.{Tables}
 use Rattle.mt_eval_spec.specs.Told.{IsFor}
 use Rattle.mt_eval_spec.specs.RowsIn.{IsRowIn, KeptIn, MeetsIn, PassesAllIn, RowsIn, expr_at, heads, operands}
 use Rattle.mt_eval_laws.specs.Laws.{LabelsAreInside}
-use Rattle.mt_eval.specs.Conds.{AreFor, StandsIn}
-use Rattle.mt_eval.specs.Conds as conds
+use Rattle.mt_tally.specs.Conds.{AreFor}
+use Rattle.mt_tally.specs.Conds as conds
+use Rattle.mt_eval.specs.Conds.{StandsIn}
 use Rattle.mt_eval.specs.Runs.{AreTexts, StandAt}
 use Rattle.mt_eval.proofs.Rooms.{stand_back}
 

@@ -1,19 +1,9 @@
--- What conditions and rows must be, so that a segment has values where they ask for them.
-use Rattle.std.specs.Prelude.{ℕ, ◌<◌, List, length}
-use Rattle.std.specs.List.{All}
+-- What rows must be, so that a segment has values where conditions ask for them.
+use Rattle.std.specs.Prelude.{ℕ, ◌<◌, length}
 use Rattle.mt_text_spec.specs.Texts.{Row}
-use Rattle.mt_text_spec.specs.Queries.{Cond}
 use Rattle.mt_match_spec.specs.Labels.{IsSetTo}
 use Rattle.mt_segment_spec.specs.Tables.{Tables}
 use Rattle.mt_eval_spec.specs.Told.{told_tokens}
-
--- the segment has the attributes of a condition
-pub record IsFor (tables : Tables) (cond : Cond) : Type 0 where
-  pub left : cond.left_attr < length tables.attrs
-  pub right : cond.right_attr < length tables.attrs
-
-abbrev pub AreFor : Tables → List Cond → Type 0
-AreFor tables conds = All (IsFor tables) conds
 
 -- the row is of a text of the segment, and its labels stand at tokens of it
 pub record StandsIn (tables : Tables) (row : Row) : Type 0 where

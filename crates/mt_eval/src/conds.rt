@@ -6,60 +6,16 @@ ghost use Rattle.mt_match_spec.specs.Labels.{IsSetTo};
 ghost use Rattle.mt_segment_spec.specs.Tables.{token_count};
 ghost use Rattle.mt_eval_spec.specs.Told.{told_value};
 ghost use Rattle.mt_eval_spec.specs.RowsIn.{MeetsIn};
-ghost use Rattle.mt_eval.specs.Conds.{AreFor, IsFor, StandsIn};
+ghost use Rattle.mt_tally.specs.Conds.{AreFor, IsFor};
+ghost use Rattle.mt_eval.specs.Conds.{StandsIn};
 ghost use Rattle.mt_rows.specs.Marks.{Tell};
 
 use mt_base::{NoMemory, Row, Steps};
 use mt_cql::Cond;
 use mt_rows::RowList;
 use mt_segment::Segment;
-use mt_segment_laws::tables_are_whole;
+use mt_tally::{are_same, place_in};
 use std::sync::ledger::Ledger;
-
-/// The place of a label, where it is set.
-fn place_of(row: &Row, label: u8) -> Option<u32>
-    ensures some { IfSome result (λ place. IsSetTo row.now.labels label place) }
-    ensures none { IfNone result ((place : ℕ) → ¬ IsSetTo row.now.labels label place) }
-{
-    if label == 0 {
-        return None;
-    }
-    match row.labels().get(label as usize - 1) {
-        None => None,
-        Some(place) => {
-            if *place == Row::UNSET {
-                None
-            } else {
-                Some(*place)
-            }
-        }
-    }
-}
-
-/// Whether the values at two places are equal: their numbers are compared where the attributes are one, else the values themselves.
-fn are_same<L: Ledger>(
-    segment: &Segment,
-    left_attr: u16,
-    left: u32,
-    right_attr: u16,
-    right: u32,
-    steps: &mut Steps<L>,
-) -> bool
-    requires left_attr { left_attr < length segment.now.attrs }
-    requires left { left < token_count segment.now }
-    requires right_attr { right_attr < length segment.now.attrs }
-    requires right { right < token_count segment.now }
-    ensures same { Decides result (told_value segment.now left_attr left ≡ told_value segment.now right_attr right) }
-    ensures rises { steps.old ≤ steps.new }
-{
-    let one = segment.value_id(left_attr, left, steps);
-    let other = segment.value_id(right_attr, right, steps);
-    if left_attr == right_attr {
-        segment.lexicon(left_attr).len();
-        return one == other;
-    }
-    segment.lexicon(left_attr).value(one) == segment.lexicon(right_attr).value(other)
-}
 
 /// Whether a row meets a condition.
 fn meets<L: Ledger>(segment: &Segment, row: &Row, cond: &Cond, steps: &mut Steps<L>) -> bool
@@ -69,10 +25,10 @@ fn meets<L: Ledger>(segment: &Segment, row: &Row, cond: &Cond, steps: &mut Steps
     ensures rises { steps.old ≤ steps.new }
 {
     let (first, _) = segment.text_bounds(row.span().text());
-    let Some(left) = place_of(row, cond.left) else {
+    let Some(left) = place_in(row.labels(), cond.left) else {
         return false;
     };
-    let Some(right) = place_of(row, cond.right) else {
+    let Some(right) = place_in(row.labels(), cond.right) else {
         return false;
     };
     let same = are_same(

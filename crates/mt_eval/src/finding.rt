@@ -269,6 +269,33 @@ fn rows_by_places<L: Ledger>(
     }
 }
 
+/// Whether the rows of an expression that is not looked for by a value are found by its automaton.
+fn suits_automaton(segment: &Segment, expr: &Expr, tests: &[Resolved]) -> bool
+    requires { length tests.now ≡ length (token_tests (shape expr.now)) }
+{
+    if is_tag(expr) || is_scanned(segment, expr, tests) {
+        return false;
+    }
+    match short_gap(segment, expr, tests) {
+        None => true,
+        Some(_) => false,
+    }
+}
+
+/// Whether the rows of the head of a query are found by its automaton: those of a sequence of `==` tests never are.
+pub(crate) fn is_by_automaton(query: &Query, prepared: &Prepared, segment: &Segment) -> bool
+    requires { IsPrepared segment.now query.now prepared.now }
+    ensures { IsTrue result → ¬ AreEquals query.now.head }
+{
+    let expr = query.head();
+    let ready = prepared.exprs.get(0);
+    let tests = ready.tests.as_slice();
+    match looked_by(segment, expr, tests) {
+        None => suits_automaton(segment, expr, tests),
+        Some(_) => false,
+    }
+}
+
 /// Adds the rows of a sequence in the texts, by the positions that are left.
 fn walked<L: Ledger>(
     asked: &Asked<'_>,

@@ -9,7 +9,8 @@ ghost use Rattle.mt_prepare.specs.Prepared.{IsPrepared};
 ghost use Rattle.mt_eval_spec.specs.Told.{IsFor};
 ghost use Rattle.mt_eval_spec.specs.Literals.{AreFew, IsPlain};
 ghost use Rattle.mt_eval_spec.specs.RowsIn.{EachLeaves, KeptIn, MeetsIn, SomePasses, heads};
-ghost use Rattle.mt_eval.specs.Conds.{AreFor, StandsIn};
+ghost use Rattle.mt_tally.specs.Conds.{AreFor};
+ghost use Rattle.mt_eval.specs.Conds.{StandsIn};
 ghost use Rattle.mt_eval.specs.Runs.{AreTexts};
 
 use super::conds::mark_met;

@@ -4,11 +4,11 @@
 //! A query is made ready for a segment by `prepare` of `mt_prepare`, which builds its patterns; `eval` then asks no shop.
 #![tactic(auto)]
 
-ghost use Rattle.std.specs.Prelude.{◌≡◌, ◌-◌, ◌≤◌, length, IfOk, OnOk, IsErrOf};
+ghost use Rattle.std.specs.Prelude.{◌≡◌, ◌-◌, ◌≤◌, length, IsTrue, IfOk, OnOk, IsErrOf};
 ghost use Rattle.mt_prepare.specs.KnownRows.{AreKnownIn};
 ghost use Rattle.mt_prepare.specs.Prepared.{IsPrepared};
 ghost use Rattle.mt_eval_spec.specs.Told.{IsFor};
-ghost use Rattle.mt_eval_spec.specs.Literals.{AreFew, IsPlain};
+ghost use Rattle.mt_eval_spec.specs.Literals.{AreEquals, AreFew, IsPlain};
 ghost use Rattle.mt_eval_spec.specs.RowsIn.{EachLeaves, KeptIn, SomePasses, heads};
 ghost use Rattle.mt_eval.specs.Runs.{AreTexts};
 
@@ -75,4 +75,12 @@ pub fn eval<L: Ledger>(
         texts: texts.as_slice(),
     };
     kept_rows(alloc, &asked, rooms, scratch, steps)
+}
+
+/// Whether `eval` finds the rows of the head of a query in a segment by its automaton. It never does so for a sequence of `==` tests alone.
+pub fn is_by_automaton(query: &Query, prepared: &Prepared, segment: &Segment) -> bool
+    requires { IsPrepared segment.now query.now prepared.now }
+    ensures { IsTrue result → ¬ AreEquals query.now.head }
+{
+    finding::is_by_automaton(query, prepared, segment)
 }

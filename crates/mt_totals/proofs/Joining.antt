@@ -18,7 +18,7 @@ use Rattle.mt_eval_laws.specs.Laws.{HaveRowsIn}
 use Rattle.mt_search.specs.Finds.{IsNext}
 use Rattle.mt_search.proofs.Finding.{found_nothing}
 use Rattle.mt_search.proofs.Groups.{too_many_in_all}
-use Rattle.mt_totals.specs.Counts.{CountsBelow}
+use Rattle.mt_tally.specs.Counts.{CountsBelow}
 use Rattle.mt_totals.specs.Totals.{HasRowTotal, IsTokenAlone}
 use Rattle.mt_totals.specs.Whole.{IsWhole}
 use Rattle.mt_totals.proofs.Standing.{rows_counted}

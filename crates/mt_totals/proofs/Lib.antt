@@ -1,8 +1,4 @@
 pub mod SpanCounts
-pub mod Pairing
-pub mod Marked
-pub mod Ones
-pub mod Listed
 pub mod SetWords
 pub mod Values
 pub mod Standing

@@ -14,7 +14,7 @@ use Rattle.mt_match_laws.specs.Laws.{HaveSpans, RowsAreOne}
 use Rattle.mt_rows.specs.Rows.{IsSpanIn}
 use Rattle.mt_rows.specs.Laws.{lists_alike, to_member, from_member}
 use Rattle.mt_totals.specs.Totals.{HasRowTotal, HasSpans, HasSpanTotal, IsTokenAlone}
-use Rattle.mt_totals.proofs.Pairing.{differ, no_longer}
+use Rattle.mt_tally.proofs.Pairing.{differ, no_longer}
 
 module _ (images : Images) (registry : Registry) (corpus : List Text) (query : Query) where
   -- ## Of any query

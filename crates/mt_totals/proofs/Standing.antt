@@ -13,9 +13,9 @@ use Rattle.mt_eval_spec.specs.RowsIn.{IsRowIn, RowsIn}
 use Rattle.mt_eval_spec.specs.Told.{HoldsAt, told_tokens}
 use Rattle.mt_rows.specs.Laws.{to_member, from_member}
 use Rattle.mt_eval.proofs.Rowed.{in_segment, later_first, next_first}
-use Rattle.mt_totals.specs.Counts.{CountsBelow}
-use Rattle.mt_totals.proofs.Listed.{each_marked, marked, marked_differ, only_marked, so_many}
-use Rattle.mt_totals.proofs.Pairing.{differ, no_longer}
+use Rattle.mt_tally.specs.Counts.{CountsBelow}
+use Rattle.mt_tally.proofs.Listed.{each_marked, marked, marked_differ, only_marked, so_many}
+use Rattle.mt_tally.proofs.Pairing.{differ, no_longer}
 
 -- ## The text in which a place stands
 

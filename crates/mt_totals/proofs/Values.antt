@@ -8,9 +8,9 @@ use Rattle.mt_pattern.specs.Marks.{IsNext, NoneFrom}
 use Rattle.mt_segment_spec.specs.Tables.{Tables, AreTables, number_at, tables_at, token_count}
 use Rattle.mt_segment_laws.specs.Laws.{AreWhole}
 use Rattle.mt_eval_laws.specs.Laws.{PlacesAreListed}
-use Rattle.mt_totals.specs.Counts.{CountsBelow}
-use Rattle.mt_totals.proofs.Listed.{listed}
-use Rattle.mt_totals.proofs.Marked.{alike, either_of, none_of, rest_of}
+use Rattle.mt_tally.specs.Counts.{CountsBelow}
+use Rattle.mt_tally.proofs.Listed.{listed}
+use Rattle.mt_tally.proofs.Marked.{alike, either_of, none_of, rest_of}
 
 -- ## One value
 

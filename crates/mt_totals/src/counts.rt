@@ -4,9 +4,8 @@ ghost use Rattle.std.specs.Prelude.{◌≡◌, ◌-◌, ◌<◌, ◌≤◌, true
 ghost use Rattle.mt_segment_spec.specs.Tables.{number_at, token_count};
 ghost use Rattle.mt_prepare.specs.TestRows.{HasAttrs, SaysAt};
 ghost use Rattle.mt_eval.specs.Sequences.{IsOne};
-ghost use Rattle.mt_totals.specs.Counts.{CountsBelow};
+ghost use Rattle.mt_tally.specs.Counts.{CountsBelow};
 
-use super::sets::place_count;
 use mt_automaton::Pool;
 use mt_base::{NoMemory, Steps};
 use mt_eval_laws::places_are_listed;
@@ -14,6 +13,7 @@ use mt_pattern::IdSet;
 use mt_prepare::{KnownRows, Resolved, row_of};
 use mt_segment::Segment;
 use mt_segment_laws::tables_are_whole;
+use mt_tally::place_count;
 use std::alloc::Global;
 use std::sync::ledger::Ledger;
 

@@ -7,7 +7,6 @@
 mod alone;
 mod counts;
 mod segments;
-mod sets;
 mod spans;
 mod totals;
 mod whole;

@@ -12,7 +12,7 @@ ghost use Rattle.mt_eval_spec.specs.Told.{HoldsAt, IsFor};
 ghost use Rattle.mt_corpus_spec.specs.Groups.{corpus_of};
 ghost use Rattle.mt_corpus_spec.specs.Images.{AreImagesBy};
 ghost use Rattle.mt_search.specs.Steps.{TakesIn, TakesInAll};
-ghost use Rattle.mt_totals.specs.Counts.{CountsBelow};
+ghost use Rattle.mt_tally.specs.Counts.{CountsBelow};
 ghost use Rattle.mt_totals.specs.Totals.{HasRowTotal, IsTokenAlone};
 ghost use Rattle.mt_totals.specs.Whole.{IsWholeCorpus};
 

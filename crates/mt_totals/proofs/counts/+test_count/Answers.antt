@@ -2,8 +2,8 @@ use Rattle.std.proofs.Common.{◌≡◌, true, slice_get, Some, sym, subst}
 use Rattle.mt_segment_spec.specs.Tables.{number_at, token_count}
 use Rattle.mt_prepare.specs.TestRows.{SaysAt}
 use Rattle.mt_prepare.specs.declared.resolved.Resolved.{Resolved}
-use Rattle.mt_totals.specs.Counts.{CountsBelow}
-use Rattle.mt_totals.proofs.Marked.{all_of, within}
+use Rattle.mt_tally.specs.Counts.{CountsBelow}
+use Rattle.mt_tally.proofs.Marked.{all_of, within}
 use Rattle.mt_totals.proofs.Values.{unless_of}
 use Rattle.mt_totals.proofs.counts.+test_count.Goals as goal
 

@@ -1,6 +1,6 @@
 use Rattle.std.proofs.Common.{◌≡◌, ℕ, List, length, sym, ◌∙◌, ap, subst, arith}
 use Rattle.mt_segment_spec.specs.Tables.{number_at, token_count}
-use Rattle.mt_totals.specs.Counts.{CountsBelow}
+use Rattle.mt_tally.specs.Counts.{CountsBelow}
 use Rattle.mt_totals.proofs.Values.{no_value, value_listed}
 use Rattle.mt_totals.proofs.counts.listed_count.Goals as goal
 

@@ -1,6 +1,6 @@
 use Rattle.std.proofs.Common.{◌≡◌, ℕ, Option, Some, sym, subst}
 use Rattle.mt_segment_spec.specs.Tables.{number_at, token_count}
-use Rattle.mt_totals.specs.Counts.{CountsBelow}
+use Rattle.mt_tally.specs.Counts.{CountsBelow}
 use Rattle.mt_totals.proofs.Values.{one_none, one_some}
 use Rattle.mt_totals.proofs.counts.one_count.Goals as goal
 

@@ -1,7 +1,7 @@
 use Rattle.std.proofs.Common.{◌≡◌, true, arith}
 use Rattle.std.proofs.lemmas.Option.{slice_get_within}
 use Rattle.mt_segment_spec.specs.Tables.{number_at, token_count}
-use Rattle.mt_totals.proofs.Marked.{within}
+use Rattle.mt_tally.proofs.Marked.{within}
 use Rattle.mt_totals.proofs.Values.{IsMarkedBelow, next_value, none_yet, no_next}
 use Rattle.mt_totals.proofs.counts.some_count.Goals as goal
 

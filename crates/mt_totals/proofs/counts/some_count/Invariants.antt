@@ -1,7 +1,7 @@
 -- The tokens are counted whose value has a number of the set below `next`.
 use Rattle.std.proofs.Common.{◌-◌}
 use Rattle.mt_segment_spec.specs.Tables.{number_at, token_count}
-use Rattle.mt_totals.specs.Counts.{CountsBelow}
+use Rattle.mt_tally.specs.Counts.{CountsBelow}
 use Rattle.mt_totals.proofs.Values.{IsMarkedBelow}
 use Rattle.mt_totals.proofs.counts.some_count.Given as goal
 

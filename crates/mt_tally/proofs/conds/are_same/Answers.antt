@@ -1,8 +1,8 @@
 use Rattle.std.proofs.Common.{ℕ, ◌<◌, [], length, get_or, sym, ap, subst, ◌∙◌}
 use Rattle.mt_store_spec.specs.Lexicons.{IsAscending}
 use Rattle.mt_segment_spec.specs.Tables.{tables_at}
-use Rattle.mt_eval.proofs.Values.{same_number, told_by, same_bytes}
-use Rattle.mt_eval.proofs.conds.are_same.Goals as goal
+use Rattle.mt_tally.proofs.Values.{same_number, told_by, same_bytes}
+use Rattle.mt_tally.proofs.conds.are_same.Goals as goal
 
 pub returns-then-left_attr-right_attr-clause-same : goal.returns-then-left_attr-right_attr-clause-same
 returns-then-left_attr-right_attr-clause-same g c =

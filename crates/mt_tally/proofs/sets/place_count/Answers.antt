@@ -1,8 +1,8 @@
 use Rattle.std.proofs.Common.{◌*◌, count_ones, refl, arith}
 use Rattle.mt_places.specs.Places.{In}
-use Rattle.mt_totals.proofs.Marked.{none_of, within}
-use Rattle.mt_totals.proofs.SetWords.{few_ones, word_more}
-use Rattle.mt_totals.proofs.sets.place_count.Goals as goal
+use Rattle.mt_tally.proofs.Marked.{none_of, within}
+use Rattle.mt_tally.proofs.SetWords.{few_ones, word_more}
+use Rattle.mt_tally.proofs.sets.place_count.Goals as goal
 
 pub loop-at-init : goal.loop-at-init
 loop-at-init c = none_of (64 * 0) (In c.args.set.now) (λ k l p. absurd (omega (arith, l)))

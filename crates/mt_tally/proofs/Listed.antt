@@ -6,9 +6,9 @@ use Rattle.std.specs.Cmp.{unsigned_Decides}
 use Rattle.std.proofs.lemmas.Bool.{cases_eq}
 use Rattle.std.proofs.lemmas.List.Kept.{AllPairs-from_increasing}
 use Rattle.mt_rows.specs.Laws.{Member, to_member, from_member}
-use Rattle.mt_totals.specs.Counts.{marked_from, CountsBelow}
-use Rattle.mt_totals.proofs.Marked.{one_if, one_mark, no_marks}
-use Rattle.mt_totals.proofs.Pairing.{Differ, no_longer}
+use Rattle.mt_tally.specs.Counts.{Differ, marked_from, CountsBelow}
+use Rattle.mt_tally.proofs.Marked.{one_if, one_mark, no_marks}
+use Rattle.mt_tally.proofs.Pairing.{no_longer}
 
 -- ## The list of the numbers that are marked
 
@@ -80,7 +80,7 @@ apart (p ∷ ps) pairs = (
   apart ps (λ i j d l h. pairs (suc i) (suc j) d (omega (arith, l)) (omega (arith, h))),
 )
 
-abbrev is_in : List ℕ → ℕ → Bool
+abbrev pub is_in : List ℕ → ℕ → Bool
 is_in [] p = false
 is_in (q ∷ qs) p = (p == q) || is_in qs p
 
@@ -88,7 +88,7 @@ first_or_rest : (a b : Bool) (P Q : Type 0) → Decides a P → Decides b Q → 
 first_or_rest true b P Q d f = (λ e. inl (d.0 refl), λ h. refl)
 first_or_rest false b P Q d f = (λ e. inr (f.0 e), λ h. elim h [ inl p ↦ let g = d.1 p in cc | inr q ↦ f.1 q ])
 
-in_told : (ps : List ℕ) (p : ℕ) → Decides (is_in ps p) (Member p ps)
+pub in_told : (ps : List ℕ) (p : ℕ) → Decides (is_in ps p) (Member p ps)
 in_told [] p = (λ e. let f : ⊥ = cc in absurd f, λ m. absurd m)
 in_told (q ∷ qs) p = first_or_rest (p == q) (is_in qs p) (p ≡ q) (Member p qs) (unsigned_Decides p q) (in_told qs p)
 

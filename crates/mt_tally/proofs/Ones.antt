@@ -6,8 +6,8 @@ use Rattle.std.proofs.lemmas.Nat.{ones_le_self}
 use Rattle.std.proofs.lemmas.Nat.Bits.{bit_at-suc, bit_at_lowest}
 use lib.Count.{ones_step}
 use native.Mathlib.Nat.{pow-suc}
-use Rattle.mt_totals.specs.Counts.{marked_from}
-use Rattle.mt_totals.proofs.Marked.{one_if, one_mark, no_marks}
+use Rattle.mt_tally.specs.Counts.{marked_from}
+use Rattle.mt_tally.proofs.Marked.{one_if, one_mark, no_marks}
 
 -- the bits of a word, from the one with this number on, as marks from any number on
 bits_from : (word first many : ℕ) (marks : ℕ → Bool) → ((j : ℕ) → j < many → marks (first + j) ≡ (bit_at word j == 1)) → word < 2 ^ many → count_ones word ≡ marked_from marks first many

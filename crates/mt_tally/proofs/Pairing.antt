@@ -7,11 +7,7 @@ use Rattle.std.specs.declared.cmp.Ordering.{Ordering}
 use Rattle.std.specs.declared.cmp.Ordering.TheVariants.{Less}
 use Rattle.std.proofs.lemmas.Cmp.{tied_itself}
 use Rattle.mt_rows.specs.Laws.{Member}
-
--- no item stands there twice
-abbrev pub Differ : {X : Type 0} → List X → Type 0
-Differ [] = Unit {0}
-Differ {X} (x ∷ xs) = ((z : X) → Member z xs → z ≢ x) × Differ xs
+use Rattle.mt_tally.specs.Counts.{Differ}
 
 -- ## Ascending lists are such
 
@@ -20,7 +16,7 @@ above order x z [] all m = absurd m
 above order x z (y ∷ ys) all (inl e) = subst (λ w. order x w ≡ Less) (sym e) all.0
 above order x z (y ∷ ys) all (inr m) = above order x z ys all.1 m
 
-not_itself : {X : Type 0} (order : X → X → Ordering) → IsTotalOrder order → (x z : X) → order x z ≡ Less → z ≢ x
+pub not_itself : {X : Type 0} (order : X → X → Ordering) → IsTotalOrder order → (x z : X) → order x z ≡ Less → z ≢ x
 not_itself order total x z less same = let tied = tied_itself total x in let again = ap (order x) (sym same) ∙ less in cc
 
 pub differ : {X : Type 0} (order : X → X → Ordering) → IsTotalOrder order → (xs : List X) → IsStrictlySortedBy order xs → Differ xs

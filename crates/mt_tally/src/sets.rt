@@ -2,12 +2,12 @@
 
 ghost use Rattle.std.specs.Prelude.{◌≤◌, length};
 ghost use Rattle.mt_places.specs.Places.{In, room};
-ghost use Rattle.mt_totals.specs.Counts.{CountsBelow};
+ghost use Rattle.mt_tally.specs.Counts.{CountsBelow};
 
 use mt_places::{Marks, Places};
 
 /// How many places are in a set. It takes no memory, and looks at 64 of them at once.
-pub(crate) fn place_count(set: &Places) -> usize
+pub fn place_count(set: &Places) -> usize
     requires { length set.now ≤ 67108864 }
     ensures { CountsBelow (room set.now) (In set.now) result }
 {

@@ -1,7 +1,7 @@
 -- How many numbers are marked, and how many have a property.
 use Rattle.std.proofs.Common.{◌≡◌, ℕ, zero, suc, ◌+◌, ◌-◌, ◌<◌, ◌≤◌, ◌⊎◌, inl, inr, Bool, true, false, not, ◌||◌, Decides, refl, sym, ◌∙◌, ap, arith}
 use Rattle.std.specs.Prelude.{if◌then◌else◌}
-use Rattle.mt_totals.specs.Counts.{marked_from, CountsBelow}
+use Rattle.mt_tally.specs.Counts.{marked_from, CountsBelow}
 
 -- ## Marks
 

@@ -1,0 +1,10 @@
+pub mod Marked
+pub mod Ones
+pub mod SetWords
+pub mod Pairing
+pub mod Listed
+pub mod Counting
+pub mod MetBegins
+pub mod EntryRows
+pub mod EntrySpans
+pub mod Values
