@@ -5,3 +5,5 @@ pub mod Standing
 pub mod Joining
 pub mod Spanned
 pub mod AllLive
+pub mod Tallied
+pub mod TalliesJoined

@@ -27,7 +27,7 @@ fn is_token(expr: &Expr) -> bool
 }
 
 /// Whether there is no filter.
-fn are_none(filters: &Filters) -> bool
+pub(crate) fn are_none(filters: &Filters) -> bool
     ensures { IsTrue result → filters_shape filters.now ≡ NoMore }
 {
     match filters {

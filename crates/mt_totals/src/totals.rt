@@ -2,6 +2,7 @@
 
 ghost use Rattle.std.specs.Prelude.{◌≡◌, ◌-◌, ◌≤◌, IfOk, IfErr, OnOk, IsErrOf};
 ghost use Rattle.std.specs.List.{All};
+ghost use Rattle.mt_text_spec.specs.Queries.{NoMore};
 ghost use Rattle.mt_match_spec.specs.Kept.{Over};
 ghost use Rattle.mt_match_spec.specs.Values.{Images};
 ghost use Rattle.mt_eval_spec.specs.Asked.{query_patterns};
@@ -15,9 +16,10 @@ ghost use Rattle.mt_search.specs.Steps.{TakesInAll};
 ghost use Rattle.mt_totals.specs.Totals.{HasSpanTotal, IsTokenAlone};
 ghost use Rattle.mt_totals.specs.Whole.{IsWholeCorpus};
 
-use super::alone::is_token_alone;
+use super::alone::{are_none, is_token_alone};
 use super::segments::row_total;
 use super::spans::span_count;
+use super::tallies::corpus_tally;
 use super::whole::is_whole;
 use mt_base::Steps;
 use mt_corpus::Corpus;
@@ -60,6 +62,34 @@ fn token_total<P: PatternShop, L: Ledger>(
     }
 }
 
+/// How many spans a query without filters has in a corpus.
+fn unfiltered_total<P: PatternShop, L: Ledger>(
+    alloc: Global,
+    corpus: &Corpus,
+    query: &Query,
+    shop: &mut P,
+    steps: &mut Steps<L>,
+) -> Result<usize, RowsError>
+    requires query { Fits corpus.now.registry query.now }
+    requires filters { query.now.filters ≡ NoMore }
+    ensures total { (images : Images) → AreImagesBy images corpus.now.taken → IfOk result (HasSpanTotal images corpus.now.registry (corpus_of corpus.now.groups) query.now) }
+    ensures within { (images : Images) → AreImagesBy images corpus.now.taken → OnOk result (¬ Over images corpus.now.registry (corpus_of corpus.now.groups) query.now) }
+    ensures over { (images : Images) → AreImagesBy images corpus.now.taken → IsErrOf result RowsError.TooManyRows → Over images corpus.now.registry (corpus_of corpus.now.groups) query.now }
+    ensures whole { OnOk result (All IsWhole (query_patterns query.now)) }
+    ensures blames { IfErr result (RefusesBy (query_patterns query.now) (P.refused shop.old) (P.refused shop.new)) }
+    ensures shop { OnOk result (P.refused shop.new ≡ P.refused shop.old) }
+    ensures rises { steps.old ≤ steps.new }
+    ensures takes { IsPlain query.now → (images : Images) → AreImagesBy images corpus.now.taken → TakesInAll images corpus.now.registry query.now corpus.now.groups (steps.new - steps.old) }
+{
+    rows_are_one();
+    let mut patterns = Patterns::<P>::build(alloc, query, shop)?;
+    match corpus_tally(alloc, corpus, query, &mut patterns, shop, steps) {
+        Ok(tally) => Ok(tally.spans),
+        Err(EvalError::TooManyRows) => Err(RowsError::TooManyRows),
+        Err(EvalError::NoMemory) => Err(RowsError::NoMemory),
+    }
+}
+
 /// How many spans a query has in a corpus: how many different ones the rows have that it keeps. The patterns of the query are built first, whatever the corpus holds, and
 /// the shop refuses nothing but the pattern for which it is blamed. Too many rows, and how many steps it takes, are those of `rows`.
 pub fn span_total<P: PatternShop, L: Ledger>(
@@ -81,6 +111,9 @@ pub fn span_total<P: PatternShop, L: Ledger>(
 {
     if is_token_alone(query) && is_whole(corpus) {
         return token_total(alloc, corpus, query, shop, steps);
+    }
+    if are_none(query.filters()) {
+        return unfiltered_total(alloc, corpus, query, shop, steps);
     }
     let rows = rows(alloc, corpus, query, shop, steps)?;
     Ok(span_count(&rows))
