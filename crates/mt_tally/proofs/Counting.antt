@@ -4,35 +4,35 @@ use Rattle.std.specs.Cmp.{IsTotalOrder}
 use Rattle.std.specs.declared.cmp.Ordering.{Ordering}
 use Rattle.std.proofs.lemmas.List.{length-map}
 use Rattle.mt_match_spec.specs.Rows.{ListsAll}
-use Rattle.mt_rows.specs.Laws.{Member, to_member, from_member}
-use Rattle.mt_tally.specs.Counts.{Differ, CountsBelow, HasCount, HasMore}
+use Rattle.mt_tally.specs.Counts.{Differ, CountsBelow, HasCount, HasMore, IsAmong}
+use Rattle.mt_tally.proofs.Among.{to_among, from_among}
 use Rattle.mt_tally.proofs.Listed.{marked, marked_differ, only_marked, each_marked, so_many}
 use Rattle.mt_tally.proofs.Pairing.{differ, no_longer}
 
 -- ## Lists
 
-pub in_first : {X : Type 0} (x : X) (xs ys : List X) → Member x xs → Member x (xs ++ ys)
+pub in_first : {X : Type 0} (x : X) (xs ys : List X) → IsAmong x xs → IsAmong x (xs ++ ys)
 in_first x [] ys m = absurd m
 in_first x (z ∷ xs) ys (inl e) = inl e
 in_first x (z ∷ xs) ys (inr m) = inr (in_first x xs ys m)
 
-pub in_second : {X : Type 0} (x : X) (xs ys : List X) → Member x ys → Member x (xs ++ ys)
+pub in_second : {X : Type 0} (x : X) (xs ys : List X) → IsAmong x ys → IsAmong x (xs ++ ys)
 in_second x [] ys m = m
 in_second x (z ∷ xs) ys m = inr (in_second x xs ys m)
 
-pub in_either : {X : Type 0} (x : X) (xs ys : List X) → Member x (xs ++ ys) → Member x xs ⊎ Member x ys
+pub in_either : {X : Type 0} (x : X) (xs ys : List X) → IsAmong x (xs ++ ys) → IsAmong x xs ⊎ IsAmong x ys
 in_either x [] ys m = inr m
 in_either x (z ∷ xs) ys (inl e) = inl (inl e)
 in_either x (z ∷ xs) ys (inr m) = elim (in_either x xs ys m) [ inl a ↦ inl (inr a) | inr b ↦ inr b ]
 
-differ_append : {X : Type 0} (xs ys : List X) → Differ xs → Differ ys → ((x : X) → Member x xs → Member x ys → ⊥) → Differ (xs ++ ys)
+differ_append : {X : Type 0} (xs ys : List X) → Differ xs → Differ ys → ((x : X) → IsAmong x xs → IsAmong x ys → ⊥) → Differ (xs ++ ys)
 differ_append [] ys d e apart = e
 differ_append (x ∷ xs) ys d e apart = (
-  λ z m same. elim (in_either z xs ys m) [ inl a ↦ d.0 z a same | inr b ↦ apart x (inl refl) (subst (λ w. Member w ys) same b) ],
+  λ z m same. elim (in_either z xs ys m) [ inl a ↦ d.0 z a same | inr b ↦ apart x (inl refl) (subst (λ w. IsAmong w ys) same b) ],
   differ_append xs ys d.1 e (λ z m n. apart z (inr m) n),
 )
 
-pub in_map : {X Y : Type 0} (f : X → Y) (xs : List X) (x : X) → Member x xs → Member (f x) (map f xs)
+pub in_map : {X Y : Type 0} (f : X → Y) (xs : List X) (x : X) → IsAmong x xs → IsAmong (f x) (map f xs)
 in_map f [] x m = absurd m
 in_map f (z ∷ xs) x (inl e) = inl (ap f e)
 in_map f (z ∷ xs) x (inr m) = inr (in_map f xs x m)
@@ -43,12 +43,12 @@ pub record IsImage {X Y : Type 0} (f : X → Y) (P : X → Type 0) (y : Y) : Typ
   pub is : P of
   pub same : y ≡ f of
 
-pub of_map : {X Y : Type 0} (f : X → Y) (xs : List X) (y : Y) → Member y (map f xs) → IsImage f (λ x. Member x xs) y
+pub of_map : {X Y : Type 0} (f : X → Y) (xs : List X) (y : Y) → IsAmong y (map f xs) → IsImage f (λ x. IsAmong x xs) y
 of_map f [] y m = absurd m
 of_map f (z ∷ xs) y (inl e) = record { of = z; is = inl refl; same = e }
 of_map f (z ∷ xs) y (inr m) = let r = of_map f xs y m in record { of = r.of; is = inr r.is; same = r.same }
 
-differ_map : {X Y : Type 0} (f : X → Y) (xs : List X) → Differ xs → ((x z : X) → Member x xs → Member z xs → f x ≡ f z → x ≡ z) → Differ (map f xs)
+differ_map : {X Y : Type 0} (f : X → Y) (xs : List X) → Differ xs → ((x z : X) → IsAmong x xs → IsAmong z xs → f x ≡ f z → x ≡ z) → Differ (map f xs)
 differ_map f [] d one = tt
 differ_map f (x ∷ xs) d one = (
   λ y m same. let r = of_map f xs y m in d.0 r.of r.is (one r.of x (inr r.is) (inl refl) (sym r.same ∙ same)),
@@ -77,7 +77,7 @@ image f P count one c = record {
   all = map f c.all;
   once = differ_map f c.all c.once (λ x z m n. one x z (c.only x m) (c.only z n));
   only = λ y m. let r = of_map f c.all y m in record { of = r.of; is = c.only r.of r.is; same = r.same };
-  each = λ y r. subst (λ w. Member w (map f c.all)) (sym r.same) (in_map f c.all r.of (c.each r.of r.is));
+  each = λ y r. subst (λ w. IsAmong w (map f c.all)) (sym r.same) (in_map f c.all r.of (c.each r.of r.is));
   counted = let same = length-map c.all f in let is = c.counted in omega (arith, same, is);
 }
 
@@ -96,8 +96,8 @@ pub listed : {X : Type 0} (order : X → X → Ordering) (P : X → Type 0) (all
 listed order P all total a = record {
   all = all;
   once = differ order total all a.ascending;
-  only = λ x m. a.only x (from_member all x m);
-  each = λ x p. to_member all x (a.each x p);
+  only = λ x m. a.only x (from_among all x m);
+  each = λ x p. to_among all x (a.each x p);
   counted = refl;
 }
 

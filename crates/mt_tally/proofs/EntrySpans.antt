@@ -20,8 +20,7 @@ use Rattle.mt_shapes.specs.declared.table.Entry.{Entry}
 use Rattle.mt_shapes.specs.Shapes.{row_of, IsWithin}
 use Rattle.mt_shapes.specs.Tables.{entry, Before, Fine, IsRowOf}
 use Rattle.mt_shapes.proofs.Bits.{in_room}
-use Rattle.mt_rows.specs.Laws.{Member}
-use Rattle.mt_tally.specs.Counts.{CountsBelow, HasCount}
+use Rattle.mt_tally.specs.Counts.{CountsBelow, HasCount, IsAmong}
 use Rattle.mt_tally.specs.Tallies.{HasLabelsFrom, HasLabelsInside, HasSeen, IsFresh, IsSpanMet, IsSpanOfEntry, IsSpanUpto, span_at}
 use Rattle.mt_tally.proofs.MetBegins.{set_there}
 use Rattle.mt_tally.proofs.EntryRows.{of_entry, to_all}
@@ -53,7 +52,7 @@ same_or_not a b = elim (cases_eq a.text b.text) [
   ]
 ]
 
-member_or_not : (a : Span) (spans : List Span) → Member a spans ⊎ (Member a spans → ⊥)
+member_or_not : (a : Span) (spans : List Span) → IsAmong a spans ⊎ (IsAmong a spans → ⊥)
 member_or_not a [] = inr (λ m. m)
 member_or_not a (b ∷ spans) = elim (same_or_not a b) [
   | inl e ↦ inl (inl e)

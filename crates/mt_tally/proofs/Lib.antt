@@ -1,3 +1,4 @@
+pub mod Among
 pub mod Marked
 pub mod Ones
 pub mod SetWords

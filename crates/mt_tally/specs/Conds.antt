@@ -9,5 +9,6 @@ pub record IsFor (tables : Tables) (cond : Cond) : Type 0 where
   pub left : cond.left_attr < length tables.attrs
   pub right : cond.right_attr < length tables.attrs
 
+-- and those of all conditions
 abbrev pub AreFor : Tables → List Cond → Type 0
 AreFor tables conds = All (IsFor tables) conds

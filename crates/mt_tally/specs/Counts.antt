@@ -1,6 +1,5 @@
 -- How many of some numbers have a property, and how many things of a kind there are.
-use Rattle.std.specs.Prelude.{ℕ, zero, suc, ◌≡◌, ◌≢◌, ◌+◌, ◌<◌, List, [], ◌∷◌, length, if◌then◌else◌, Bool, Decides}
-use Rattle.mt_rows.specs.Laws.{Member}
+use Rattle.std.specs.Prelude.{ℕ, zero, suc, ◌≡◌, ◌≢◌, ◌+◌, ◌<◌, ◌⊎◌, List, [], ◌∷◌, length, if◌then◌else◌, Bool, Decides}
 
 -- ## Numbers
 
@@ -17,22 +16,27 @@ pub record CountsBelow (limit : ℕ) (P : ℕ → Type 0) (count : ℕ) : Type 0
 
 -- ## Things
 
+-- an item is one of a list
+abbrev pub IsAmong : {X : Type 0} → X → List X → Type 0
+IsAmong x [] = ⊥
+IsAmong x (y ∷ ys) = (x ≡ y) ⊎ IsAmong x ys
+
 -- no item stands there twice
 abbrev pub Differ : {X : Type 0} → List X → Type 0
 Differ [] = Unit {0}
-Differ {X} (x ∷ xs) = ((z : X) → Member z xs → z ≢ x) × Differ xs
+Differ {X} (x ∷ xs) = ((z : X) → IsAmong z xs → z ≢ x) × Differ xs
 
 -- there are so many things of a kind
 pub record HasCount {X : Type 0} (P : X → Type 0) (count : ℕ) : Type 0 where
   pub all : List X
   pub once : Differ all
-  pub only : (x : X) → Member x all → P x
-  pub each : (x : X) → P x → Member x all
+  pub only : (x : X) → IsAmong x all → P x
+  pub each : (x : X) → P x → IsAmong x all
   pub counted : count ≡ length all
 
 -- there are more of them than so many
 pub record HasMore {X : Type 0} (P : X → Type 0) (room : ℕ) : Type 0 where
   pub some : List X
   pub once : Differ some
-  pub only : (x : X) → Member x some → P x
+  pub only : (x : X) → IsAmong x some → P x
   pub more : room < length some

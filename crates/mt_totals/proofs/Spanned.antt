@@ -12,7 +12,8 @@ use Rattle.mt_match_spec.specs.Rows.{IsRow}
 use Rattle.mt_match_spec.specs.Values.{Images}
 use Rattle.mt_match_laws.specs.Laws.{HaveSpans, RowsAreOne}
 use Rattle.mt_rows.specs.Rows.{IsSpanIn}
-use Rattle.mt_rows.specs.Laws.{lists_alike, to_member, from_member}
+use Rattle.mt_rows.specs.Laws.{lists_alike}
+use Rattle.mt_tally.proofs.Among.{to_among, from_among}
 use Rattle.mt_totals.specs.Totals.{HasRowTotal, HasSpans, HasSpanTotal, IsTokenAlone}
 use Rattle.mt_tally.proofs.Pairing.{differ, no_longer}
 
@@ -61,12 +62,12 @@ module _ (images : Images) (registry : Registry) (corpus : List Text) (query : Q
     as_many_spans have total has =
         let (spans, are) = have images registry corpus query in
         let up : length has.rows ≤ length spans = no_longer HasSpan has.rows spans (differ row_cmp row_cmp_total has.rows has.are.ascending) (λ row m.
-        let is = has.are.only row (from_member has.rows row m) in
-        record { other = row.span; member = to_member spans row.span (are.each row.span (record { labels = row.labels; keeps = keeps row is })); goes = record { is = is; at = refl } }) same_row in
+        let is = has.are.only row (from_among has.rows row m) in
+        record { other = row.span; member = to_among spans row.span (are.each row.span (record { labels = row.labels; keeps = keeps row is })); goes = record { is = is; at = refl } }) same_row in
         let down : length spans ≤ length has.rows = no_longer (λ (span : Span) (row : Row). HasSpan row span) spans has.rows (differ span_cmp span_cmp_total spans are.ascending) (λ span m.
-        let h = are.only span (from_member spans span m) in
+        let h = are.only span (from_among spans span m) in
         let row : Row = record { span = span; labels = h.labels } in
-        record { other = row; member = to_member has.rows row (has.are.each row h.keeps.is_row); goes = record { is = h.keeps.is_row; at = refl } })
+        record { other = row; member = to_among has.rows row (has.are.each row h.keeps.is_row); goes = record { is = h.keeps.is_row; at = refl } })
         (λ span other row r s. sym r.at ∙ s.at) in
         let is = has.counted in
         record { spans = spans; are = are; counted = omega (arith, up, down, is) }

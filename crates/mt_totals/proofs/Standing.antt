@@ -11,7 +11,7 @@ use Rattle.mt_match_spec.specs.Labels.{labelled}
 use Rattle.mt_segment_spec.specs.Tables.{Tables, first_place, token_count}
 use Rattle.mt_eval_spec.specs.RowsIn.{IsRowIn, RowsIn}
 use Rattle.mt_eval_spec.specs.Told.{HoldsAt, told_tokens}
-use Rattle.mt_rows.specs.Laws.{to_member, from_member}
+use Rattle.mt_tally.proofs.Among.{to_among, from_among}
 use Rattle.mt_eval.proofs.Rowed.{in_segment, later_first, next_first}
 use Rattle.mt_tally.specs.Counts.{CountsBelow}
 use Rattle.mt_tally.proofs.Listed.{each_marked, marked, marked_differ, only_marked, so_many}
@@ -134,7 +134,7 @@ module _ (tables : Tables) (live : List ℕ) (label : ℕ) (test : Test) where
   rows_counted all rows count are c =
       let places : List ℕ = marked c.marks 0 (token_count tables) in
       let up : length rows ≤ length places = no_longer Stands rows places (differ row_cmp row_cmp_total rows are.ascending) (λ row m.
-      let is = are.only row (from_member rows row m) in
+      let is = are.only row (from_among rows row m) in
       let low = its_place row is in
       record {
         other = first_place tables row.span.text + row.span.begin;
@@ -148,7 +148,7 @@ module _ (tables : Tables) (live : List ℕ) (label : ℕ) (test : Test) where
       let low : place < token_count tables = omega (arith, high) in
       let in_it = stands_in tables place low in
       let row = is_row all in_it.text in_it.begin in_it.there in_it.inside (subst (HoldsAt tables test) (sym in_it.at) ((c.tell place low).0 is.mark)) in
-      record { other = row_at in_it.text in_it.begin; member = to_member rows (row_at in_it.text in_it.begin) (are.each (row_at in_it.text in_it.begin) row); goes = stands_there place in_it row })
+      record { other = row_at in_it.text in_it.begin; member = to_among rows (row_at in_it.text in_it.begin) (are.each (row_at in_it.text in_it.begin) row); goes = stands_there place in_it row })
       (λ place other row r s. sym r.at ∙ s.at) in
       let many = so_many c.marks 0 (token_count tables) in
       let is = c.counted in

@@ -13,7 +13,7 @@ use Rattle.mt_eval_spec.specs.Told.{told, told_tokens}
 use Rattle.mt_eval_laws.specs.Laws.{LabelsAreInside}
 use Rattle.mt_automaton.specs.RowsFrom.{IsRowOfText}
 use Rattle.mt_rows.specs.Rows.{IsSpanIn}
-use Rattle.mt_rows.specs.Laws.{from_member}
+use Rattle.mt_tally.proofs.Among.{from_among}
 use Rattle.mt_shapes.specs.declared.table.Entry.{Entry}
 use Rattle.mt_shapes.specs.Tables.{IsRowOf, TellsRows}
 use Rattle.mt_tally.specs.Counts.{HasCount, HasMore}
@@ -156,7 +156,7 @@ module _ (tables : Tables) (texts : List ℕ) (query : Query) where
   }
 
   pub more_listed : (room : ℕ) → PassesRoom tables texts query.head room → HasMore (IsRowIn tables texts query.head) room
-  more_listed room p = record { some = p.rows; once = differ row_cmp row_cmp_total p.rows p.are.ascending; only = λ row m. p.are.only row (from_member p.rows row m); more = p.more }
+  more_listed room p = record { some = p.rows; once = differ row_cmp row_cmp_total p.rows p.are.ascending; only = λ row m. p.are.only row (from_among p.rows row m); more = p.more }
 
 -- what is left of a room for the head alone
 pub record Left (tables : Tables) (texts : List ℕ) (expr : Expr) (room left : ℕ) : Type 0 where

@@ -19,7 +19,8 @@ use Rattle.mt_corpus_laws.specs.Laws.{span_to}
 use Rattle.mt_eval_spec.specs.RowsIn.{IsRowIn, KeptIn, PassesAllIn}
 use Rattle.mt_eval_laws.specs.Laws.{HaveRowsIn, KeptAreTold}
 use Rattle.mt_eval_laws.proofs.Members.{was_member, passes, is_member}
-use Rattle.mt_rows.specs.Laws.{Member, to_member, from_member}
+use Rattle.mt_tally.proofs.Among.{to_among, from_among}
+use Rattle.mt_tally.specs.Counts.{IsAmong}
 use Rattle.mt_search.specs.Finds.{IsNext}
 use Rattle.mt_search.proofs.Finding.{found_nothing}
 use Rattle.mt_search.proofs.Places.{contained}
@@ -75,8 +76,8 @@ module _ (images : Images) (registry : Registry) (corpus : List Text) (query : Q
         filter here all.0,
         record {
           ascending = IsStrictlySortedBy-filter row_cmp here all.0 all.1.ascending;
-          only = λ row h. same.back row (from_member (live_numbers 0 group) row.span.text ((in_told (live_numbers 0 group) row.span.text).0 (passes here all.0 row h)), all.1.only row (was_member here all.0 row h));
-          each = λ row h. let is = same.on row h in is_member here all.0 row (all.1.each row is.1) ((in_told (live_numbers 0 group) row.span.text).1 (to_member (live_numbers 0 group) row.span.text is.0));
+          only = λ row h. same.back row (from_among (live_numbers 0 group) row.span.text ((in_told (live_numbers 0 group) row.span.text).0 (passes here all.0 row h)), all.1.only row (was_member here all.0 row h));
+          each = λ row h. let is = same.on row h in is_member here all.0 row (all.1.each row is.1) ((in_told (live_numbers 0 group) row.span.text).1 (to_among (live_numbers 0 group) row.span.text is.0));
         },
       )
 
@@ -102,25 +103,25 @@ module _ (images : Images) (registry : Registry) (corpus : List Text) (query : Q
     abbrev to_corpus : Row → Row
     to_corpus = placed (length corpus) (live_numbers 0 group)
 
-    is_kept : (row : Row) → Member row kept ⊎ Member row (map to_corpus more) → Keeps images registry (corpus ++ live_texts group) query row
-    is_kept row (inl m) = both.only row (from_member (kept ++ map to_corpus more) row (in_first row kept (map to_corpus more) m))
-    is_kept row (inr m) = both.only row (from_member (kept ++ map to_corpus more) row (in_second row kept (map to_corpus more) m))
+    is_kept : (row : Row) → IsAmong row kept ⊎ IsAmong row (map to_corpus more) → Keeps images registry (corpus ++ live_texts group) query row
+    is_kept row (inl m) = both.only row (from_among (kept ++ map to_corpus more) row (in_first row kept (map to_corpus more) m))
+    is_kept row (inr m) = both.only row (from_among (kept ++ map to_corpus more) row (in_second row kept (map to_corpus more) m))
 
     old_or_new : (span : Span) → IsSpan images registry corpus query span ⊎ IsImage moved (IsSpanMetIn tables (live_numbers 0 group) query) span → IsSpan images registry (corpus ++ live_texts group) query span
-    old_or_new span (inl s) = record { labels = s.labels; keeps = is_kept (record { span = span; labels = s.labels }) (inl (to_member kept (record { span = span; labels = s.labels }) (was.each (record { span = span; labels = s.labels }) s.keeps))) }
+    old_or_new span (inl s) = record { labels = s.labels; keeps = is_kept (record { span = span; labels = s.labels }) (inl (to_among kept (record { span = span; labels = s.labels }) (was.each (record { span = span; labels = s.labels }) s.keeps))) }
     old_or_new span (inr r) =
         let row : Row = record { span = r.of; labels = r.is.labels } in
         let c = are.each row (record { is_row = r.is.is_row; passes = subst (λ (f : Filters). PassesAllIn tables (live_numbers 0 group) f r.of) (sym none) tt; meets = r.is.meets }) in
-        subst (IsSpan images registry (corpus ++ live_texts group) query) (sym r.same) (record { labels = r.is.labels; keeps = is_kept (to_corpus row) (inr (in_map to_corpus more row (to_member more row c))) })
+        subst (IsSpan images registry (corpus ++ live_texts group) query) (sym r.same) (record { labels = r.is.labels; keeps = is_kept (to_corpus row) (inr (in_map to_corpus more row (to_among more row c))) })
 
     new_or_old : (span : Span) → IsSpan images registry (corpus ++ live_texts group) query span → IsSpan images registry corpus query span ⊎ IsImage moved (IsSpanMetIn tables (live_numbers 0 group) query) span
     new_or_old span s =
         let row : Row = record { span = span; labels = s.labels } in
-        elim (in_either row kept (map to_corpus more) (to_member (kept ++ map to_corpus more) row (both.each row s.keeps))) [
-          | inl m ↦ inl (record { labels = s.labels; keeps = was.only row (from_member kept row m) })
+        elim (in_either row kept (map to_corpus more) (to_among (kept ++ map to_corpus more) row (both.each row s.keeps))) [
+          | inl m ↦ inl (record { labels = s.labels; keeps = was.only row (from_among kept row m) })
           | inr m ↦
               let r = of_map to_corpus more row m in
-              let k = are.only r.of (from_member more r.of r.is) in
+              let k = are.only r.of (from_among more r.of r.is) in
               inr (record { of = r.of.span; is = record { labels = r.of.labels; is_row = k.is_row; meets = k.meets }; same = ap (λ (x : Row). x.span) r.same })
         ]
 
