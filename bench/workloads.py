@@ -86,6 +86,34 @@ def refused_texts(path, texts, tokens):
         out.write(re.sub(rb"\n(?=text |\Z)", b"\xff\n", script))
 
 
+def small_files(folder, texts, tokens):
+    """Writes the texts of `many_texts` as files, those of `refused_texts` too, and a script that adds each."""
+    for kind, write in ("adds", many_texts), ("reads", refused_texts):
+        write(folder / kind, texts, tokens)
+        bodies = re.split(rb"(?m)^text .*\n", (folder / kind).read_bytes())[1:]
+        for number, body in enumerate(bodies):
+            (folder / f"{kind}{number}").write_bytes(body)
+        (folder / kind).write_text("".join(f"add t{number} {kind}{number}\n" for number in range(texts)))
+
+
+def whole_runs(tokens):
+    """The scripts of whole runs, by what they do: texts are added, and asked for literals, patterns, sequences, sketches, frequencies and collocations."""
+    one = f"generate g1 1 {tokens}\n"
+    four = "".join(f"generate g{seed} {seed} {tokens}\n" for seed in range(1, 5))
+    literals = itertools.islice((number for number in words(3, 10_000) if number < 1_000), 1_000)
+    patterns = (form % digit for digit in range(10) for form in PATTERNS)
+    sketches = ["grammar six.wsdef"] + [f"sketch 1 20 {lemma}" for lemma in LEMMAS] + [f"thes 20 {lemma}" for lemma in LEMMAS]
+    return {
+        "add": "add corpus vertical\n",
+        "four generate": four,
+        "1,000 literals over them": four + "".join(f'count [lemma=="l{number}"]\n' for number in literals),
+        "50 patterns over them": four + "".join(f"count {pattern}\n" for pattern in patterns),
+        "ten sequences over one": one + "".join(f"count {sequence}\n" for sequence in SEQUENCES),
+        "six relations over one": one + "".join(f"{line}\n" for line in sketches),
+        "five reports over one": one + "".join(f"{report}\n" for report in REPORTS),
+    }
+
+
 def asked(path, begin, questions):
     """Writes a script that begins with what another file has, and then asks questions."""
     with open(begin, "rb") as front, open(path, "wb") as out:
@@ -118,6 +146,27 @@ GRAMMAR = """*STRUCTLIMIT s
 
 # Lemmas of generated texts from the most frequent one to rare ones, nouns, verbs and adjectives.
 LEMMAS = [f"l{number}" for number in (0, 1, 2, 4, 10, 16, 40, 50, 61, 100, 150, 200, 350, 400, 501, 550, 600, 750, 800, 900)]
+
+
+# Sequences of generated texts: with repeated tokens, gaps, filters and a condition.
+SEQUENCES = (
+    '[tag="J"]+ [tag="N"]',
+    '[tag="J"] []{0,4} [tag="V"]',
+    '[tag="J"] []{0,4} [tag="V"] within <s/>',
+    '<s/> containing [tag="N"]{3}',
+    '1:[tag="N"] []{0,3} 2:[tag="J"] & 1.lemma = 2.lemma',
+    '[lemma=="l17"] [lemma=="l3"]',
+    '[lemma="l1.*"] [tag="N"]',
+    '[tag="D"] [tag="J"]? [tag="N"]',
+    '[]{0,3} [lemma=="l7"]',
+    '[tag="V"] [tag!="N"]{1,3} [tag="N"]',
+)
+
+# Patterns of generated texts, in which a digit stands: the beginning of a lemma, the end of a word, a class, a choice, and one beside a tag.
+PATTERNS = ('[lemma="l%d.*"]', '[word=".*%ds"]', '[lemma="l[%d-9]{2}"]', '[lemma="l1%d|l2.5"]', '[lemma="l%d.*" & tag="N"]')
+
+# Frequency lists and collocations of generated texts.
+REPORTS = ("freq lemma 0 []", 'freq tag 1 [tag="N"]', 'freq word 0 [tag="V"]', "colloc lemma -3 3 5 []", 'colloc lemma -3 3 5 [tag="N"]')
 
 
 def grammar(path):
