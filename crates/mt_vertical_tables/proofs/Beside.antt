@@ -31,14 +31,14 @@ module _ {X : Type 0} (R : ℕ → X → Type 0) where
       subst (λ (n : ℕ). R n (get_or xs k d)) same (at_number (from + 1) many xs k d h.1 (omega arith))
 
 -- the tables that were made for the numbers of all columns
-pub columns_made : (E : Type 0) (bytes : List ℕ) (count : ℕ) (results : List (Result AttrTables E)) (tables : List AttrTables) → AllZip (λ column r. IfOk r (IsColumnOf bytes column)) (range_with_len 0 count) results →
-    results ≡ map Ok tables → AreColumns bytes count tables
-columns_made E bytes count results tables h e =
+pub columns_made : (E : Type 0) (ls : List (List ℕ)) (count : ℕ) (results : List (Result AttrTables E)) (tables : List AttrTables) → AllZip (λ column r. IfOk r (IsColumnOf ls column)) (range_with_len 0 count) results →
+    results ≡ map Ok tables → AreColumns ls count tables
+columns_made E ls count results tables h e =
     let numbers = range_with_len 0 count in
-    let made = all_right (IsColumnOf bytes) E numbers tables (subst (λ (rs : List (Result AttrTables E)). AllZip (λ column r. IfOk r (IsColumnOf bytes column)) numbers rs) e h) in
+    let made = all_right (IsColumnOf ls) E numbers tables (subst (λ (rs : List (Result AttrTables E)). AllZip (λ column r. IfOk r (IsColumnOf ls column)) numbers rs) e h) in
     record {
-      count_is = long (IsColumnOf bytes) 0 count tables made;
+      count_is = long (IsColumnOf ls) 0 count tables made;
       each = λ column l.
           let same : 0 + column ≡ column = omega arith in
-          subst (λ (n : ℕ). IsColumnOf bytes n (tables_at tables column)) same (at_number (IsColumnOf bytes) 0 count tables column (tables_at [] 0) made l);
+          subst (λ (n : ℕ). IsColumnOf ls n (tables_at tables column)) same (at_number (IsColumnOf ls) 0 count tables column (tables_at [] 0) made l);
     }

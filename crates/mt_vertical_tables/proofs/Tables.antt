@@ -77,7 +77,7 @@ valid_alone registry text h = record {
     only (suc k) d l = absurd (omega (arith, l))
 
 module _ (registry : Registry) (name bytes : List ℕ) (tokens : ℕ) (structs : List (List StructSpan)) (attrs : List AttrTables) (bases : All (λ attr. attr.base ≡ None) registry.attrs) (o : IsOutline registry name bytes tokens structs)
-    (k : AreColumns bytes (length registry.attrs) attrs) where
+    (k : AreColumns (text_lines bytes) (length registry.attrs) attrs) where
   abbrev roles : List Role
   roles = all_wide (base_count registry.attrs) (text_lines bytes) o.read.roles
 

@@ -1,7 +1,6 @@
 -- The columns of a vertical: the values of its tokens, column by column.
 use Rattle.std.specs.Prelude.{ℕ, ◌≡◌, ◌<◌, ◌≤◌, ◌⊎◌, List, [], ◌∷◌, ◌++◌, length}
 use Rattle.mt_text_spec.specs.Texts.{value_bytes_limit}
-use Rattle.mt_file_spec.specs.Vertical.{text_lines}
 use Rattle.mt_vertical.specs.Columns.{column_in}
 use Rattle.mt_vertical.specs.Lines.{IsToken}
 use Rattle.mt_segment_spec.specs.Tables.{AttrTables, AreBaseTables, tables_at}
@@ -22,13 +21,13 @@ AreValuesIn column (line ∷ ls) values =
 abbrev pub AddsLine : ℕ → List ℕ → List (List ℕ) → List (List ℕ) → Type 0
 AddsLine column line old new = ((¬ IsToken line) × (new ≡ old)) ⊎ ((value : List ℕ) × IsValueIn column line value × (new ≡ old ++ value ∷ []))
 
--- the tables of a column of a vertical
-pub record IsColumnOf (bytes : List ℕ) (column : ℕ) (tables : AttrTables) : Type 0 where
+-- the tables of a column of lines
+pub record IsColumnOf (ls : List (List ℕ)) (column : ℕ) (tables : AttrTables) : Type 0 where
   pub values : List (List ℕ)
-  pub are : AreValuesIn column (text_lines bytes) values
+  pub are : AreValuesIn column ls values
   pub made : AreBaseTables values tables
 
--- the tables of its first columns, so many
-pub record AreColumns (bytes : List ℕ) (count : ℕ) (all : List AttrTables) : Type 0 where
+-- the tables of their first columns, so many
+pub record AreColumns (ls : List (List ℕ)) (count : ℕ) (all : List AttrTables) : Type 0 where
   pub count_is : length all ≡ count
-  pub each : (column : ℕ) → column < count → IsColumnOf bytes column (tables_at all column)
+  pub each : (column : ℕ) → column < count → IsColumnOf ls column (tables_at all column)

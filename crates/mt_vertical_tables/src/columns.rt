@@ -2,13 +2,14 @@
 
 ghost use Rattle.std.specs.Prelude.{◌≡◌, ◌≤◌, [], ◌∷◌, ◌++◌, length, IfOk, OnOk};
 ghost use Rattle.mt_text_spec.specs.Texts.{text_tokens_limit, value_bytes_limit};
-ghost use Rattle.mt_file_spec.specs.Vertical.{text_lines};
+ghost use Rattle.std.specs.Str.Lines.{lines};
+ghost use Rattle.mt_file_spec.specs.Vertical as vertical;
 ghost use Rattle.mt_vertical_tables.specs.Columns.{AddsLine, AreColumns, AreValuesIn, IsColumnOf};
 
 use super::numbering::Numbering;
 use super::unmade::Unmade;
+use mt_base::List;
 use mt_base::limits::{TEXT_TOKENS_LIMIT, VALUE_BYTES_LIMIT};
-use mt_base::{Lines, List};
 use mt_lexicon::Lexicon;
 use mt_postings::Postings;
 use mt_segment::{Column, postings_of};
@@ -36,32 +37,42 @@ impl Model for ColumnTables {
     ghost view = { λ t. record { base = None; lexicon = t.lexicon; numbers = t.column; postings = t.postings } };
 }
 
-/// The tables of the first columns of a vertical, so many, each made by a thread of its own as far as the machine has them.
+/// What a vertical has behind its byte order mark, where that is text. All columns are read from it, so it is tested once.
+pub(crate) fn text_of(bytes: &[u8]) -> Result<&str, Unmade>
+    ensures { IfOk result (λ text. text.now ≡ vertical.without_mark bytes.now) }
+{
+    match str::from_utf8(without_mark(bytes)) {
+        Ok(text) => Ok(text),
+        Err(_) => Err(Unmade::Refused),
+    }
+}
+
+/// The tables of the first columns of a text's lines, so many, each made by a thread of its own as far as the machine has them.
 pub(crate) fn all_columns<R: Threads + Sync>(
     rt: &R,
     alloc: Global,
-    bytes: &[u8],
+    text: &str,
     count: usize,
 ) -> Result<Vec<ColumnTables>, Unmade>
-    ensures { IfOk result (λ tables. AreColumns bytes.now count tables.items) }
+    ensures { IfOk result (λ tables. AreColumns (lines text.now) count tables.items) }
 {
     let made: Result<Vec<ColumnTables>, Unmade> = (0..count)
         .into_par_iter()
         .with_min_len(1)
         .map(
             |column: usize| -> Result<ColumnTables, Unmade>
-                ensures { IfOk result (λ tables. IsColumnOf bytes.entry.now column tables) }
-            { column_tables(alloc, bytes, column) },
+                ensures { IfOk result (λ tables. IsColumnOf (lines text.entry.now) column tables) }
+            { column_tables(alloc, text, column) },
         )
         .collect(rt, alloc)?;
     made
 }
 
-/// The tables of a column of a vertical.
-fn column_tables(alloc: Global, bytes: &[u8], column: usize) -> Result<ColumnTables, Unmade>
-    ensures { IfOk result (λ tables. IsColumnOf bytes.now column tables) }
+/// The tables of a column of a text's lines.
+fn column_tables(alloc: Global, text: &str, column: usize) -> Result<ColumnTables, Unmade>
+    ensures { IfOk result (λ tables. IsColumnOf (lines text.now) column tables) }
 {
-    let numbering = number_lines(alloc, bytes, column)?;
+    let numbering = number_lines(alloc, text, column)?;
     let (lexicon, numbers) = numbering.finish()?;
     let postings = postings_of(alloc, numbers.as_slice(), lexicon.len() as usize)?;
     Ok(ColumnTables {
@@ -71,27 +82,24 @@ fn column_tables(alloc: Global, bytes: &[u8], column: usize) -> Result<ColumnTab
     })
 }
 
-/// The values in a column of a vertical, numbered.
-fn number_lines(alloc: Global, bytes: &[u8], column: usize) -> Result<Numbering, Unmade>
-    ensures values { IfOk result (λ numbering. AreValuesIn column (text_lines bytes.now) numbering) }
+/// The values in a column of a text's lines, numbered.
+fn number_lines(alloc: Global, text: &str, column: usize) -> Result<Numbering, Unmade>
+    ensures values { IfOk result (λ numbering. AreValuesIn column (lines text.now) numbering) }
     ensures few { IfOk result (λ numbering. length numbering ≤ text_tokens_limit) }
 {
     let mut numbering = Numbering::new(alloc)?;
-    for line in Lines::new(without_mark(bytes)) {
+    for line in text.lines() {
         add_line(&mut numbering, line, column)?;
     }
     Ok(numbering)
 }
 
 /// Adds the value that a line has in a column, if the line is a token.
-fn add_line(numbering: &mut Numbering, line: &[u8], column: usize) -> Result<(), Unmade>
+fn add_line(numbering: &mut Numbering, line: &str, column: usize) -> Result<(), Unmade>
     requires { length numbering.old ≤ text_tokens_limit }
     ensures few { OnOk result (length numbering.new ≤ text_tokens_limit) }
     ensures adds { OnOk result (AddsLine column line.now numbering.old numbering.new) }
 {
-    let Ok(line) = str::from_utf8(line) else {
-        return Err(Unmade::Refused);
-    };
     match token_value(line, column) {
         Some(value) => add_value(numbering, value),
         None => Ok(()),
