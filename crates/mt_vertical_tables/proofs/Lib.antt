@@ -1,6 +1,7 @@
 pub mod Beside
 pub mod Lists
 pub mod Narrow
+pub mod Packing
 pub mod Tables
 pub mod Values
 pub mod Wide

@@ -6,6 +6,7 @@
 #![tactic(auto)]
 
 mod columns;
+mod known;
 mod numbering;
 mod outline;
 mod segment;

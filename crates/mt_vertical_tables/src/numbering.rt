@@ -5,15 +5,16 @@ ghost use Rattle.std.specs.List.{All};
 ghost use Rattle.mt_lexicon.specs.Joins.{renumbered};
 ghost use Rattle.mt_store_spec.specs.Lexicons.{IsLexiconOf, Renumbers};
 
+use super::known::Seen;
 use mt_base::NoMemory;
-use mt_lexicon::{Lexicon, LexiconBuilder, Renumbering};
+use mt_lexicon::{Lexicon, Renumbering};
 use std::alloc::Global;
 use std::marker::Model;
 
 /// Values in order, seen as their list. Each distinct one is kept once, under a number, and the numbers stand for the values.
 #[derive(Drop)]
 pub(crate) struct Numbering {
-    seen: LexiconBuilder,
+    seen: Seen,
     numbers: Vec<u32>,
 }
 
@@ -34,7 +35,7 @@ impl Numbering {
         ensures { IfOk result (λ numbering. numbering ≡ []) }
     {
         Ok(Numbering {
-            seen: LexiconBuilder::new(alloc)?,
+            seen: Seen::new(alloc)?,
             numbers: Vec::new(alloc),
         })
     }
