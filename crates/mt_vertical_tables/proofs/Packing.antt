@@ -1,6 +1,6 @@
 -- Packed values are told apart, and entries stay right while values are added.
-use Rattle.std.proofs.Common.{◌≡◌, ℕ, zero, suc, ◌+◌, ◌*◌, ◌^◌, ◌<◌, ◌≤◌, Bool, true, false, if◌then◌else◌, List, [], ◌∷◌, ◌++◌, length, length-append, replicate, take, get_or, slice_get, Some, refl, sym, ◌∙◌, ap, ap₂, subst, arith, ◌⊎◌, inl, inr}
-use Rattle.std.specs.List.{All, Contains, list_any}
+use Rattle.std.proofs.Common.{◌≡◌, ℕ, suc, ◌+◌, ◌*◌, ◌^◌, ◌<◌, ◌≤◌, Bool, true, false, if◌then◌else◌, List, [], ◌∷◌, ◌++◌, length, length-append, replicate, take, get_or, slice_get, Some, refl, sym, ◌∙◌, ap, ap₂, subst, arith, ◌⊎◌, inl, inr}
+use Rattle.std.specs.List.{All, list_any}
 use Rattle.std.specs.Str.{bytes_eq}
 use Rattle.std.proofs.Math.Nat.{pow-suc, pow-le-pow_right, one-le-pow, mul-le-mul_left}
 use Rattle.std.proofs.lemmas.Bool.{cases_lt}
@@ -8,7 +8,7 @@ use Rattle.std.proofs.lemmas.List.{take_more, take_all, get_or_append_left}
 use Rattle.std.proofs.lemmas.List.Elements.{All-replicate}
 use Rattle.std.proofs.lemmas.Option.{get_or_from_slice_get, slice_get_within, slice_get-get_or}
 use Rattle.mt_store_spec.specs.Lexicons.{seen_with}
-use Rattle.mt_vertical_tables.specs.Packing.{IsKnown, IsPacked, Tells, digits_behind}
+use Rattle.mt_vertical_tables.specs.Packing.{IsKnown, IsPacked, Tells, digits_behind, key_of}
 use Rattle.mt_vertical_tables.specs.declared.known.Known.{Known}
 
 abbrev AreBytes : List ℕ → Type 0
@@ -84,12 +84,12 @@ has_key value key p =
 -- ---- entries
 
 -- the entry at a place tells the number of the value that it packs
-pub told : (seen : List (List ℕ)) (known : List Known) (d : Known) (place key : ℕ) (value : List ℕ) → All (IsKnown seen) known → IsPacked value key → place < length known → (get_or known place d).key ≡ key →
+pub told : (seen : List (List ℕ)) (known : List Known) (d : Known) (place key : ℕ) (value : List ℕ) → All (IsKnown seen) known → IsPacked value key → place < length known → key_of (get_or known place d) ≡ key →
     slice_get seen (get_or known place d).number ≡ Some value
 told seen known d place key value all packs l same =
-    let mine : IsPacked value (get_or known place d).key = subst (IsPacked value) (sym same) packs in
-    let t : Tells seen (get_or known place d) = all place d l (has_key value (get_or known place d).key mine) in
-    t.at ∙ ap (λ (v : List ℕ). Some v) (told_apart t.value value (get_or known place d).key t.packs mine)
+    let mine : IsPacked value (key_of (get_or known place d)) = subst (IsPacked value) (sym same) packs in
+    let t : Tells seen (get_or known place d) = all place d l (has_key value (key_of (get_or known place d)) mine) in
+    t.at ∙ ap (λ (v : List ℕ). Some v) (told_apart t.value value (key_of (get_or known place d)) t.packs mine)
 
 stays : (seen : List (List ℕ)) (value other : List ℕ) (n : ℕ) → slice_get seen n ≡ Some other → slice_get (seen_with seen value) n ≡ Some other
 stays seen value other n at = by (list_any (bytes_eq value) seen)
@@ -109,9 +109,13 @@ known_more seen more value known e all = λ place d l has_key.
     let t : Tells seen (get_or known place d) = all place d l has_key in
     record { value = t.value; packs = t.packs; at = subst (λ (vs : List (List ℕ)). slice_get vs (get_or known place d).number ≡ Some t.value) (sym e) (stays seen value t.value (get_or known place d).number t.at) }
 
-pub tells : (seen : List (List ℕ)) (value : List ℕ) (key number : ℕ) → IsPacked value key → slice_get seen number ≡ Some value → IsKnown seen (record { key = key; number = number })
-tells seen value key number packs at = λ has_key. record { value = value; packs = packs; at = at }
+pub tells : (seen : List (List ℕ)) (entry : Known) (value : List ℕ) (key number : ℕ) → key_of entry ≡ key → entry.number ≡ number → IsPacked value key → slice_get seen number ≡ Some value → IsKnown seen entry
+tells seen entry value key number k n packs at = λ has_key. record {
+  value = value;
+  packs = subst (IsPacked value) (sym k) packs;
+  at = subst (λ (m : ℕ). slice_get seen m ≡ Some value) (sym n) at;
+}
 
 -- entries without a key tell of none
-pub none_known : (n : ℕ) (seen : List (List ℕ)) (known : List Known) → known ≡ replicate n (record { key = 0; number = 0 }) → All (IsKnown seen) known
-none_known n seen known e = subst (All (IsKnown seen)) (sym e) (All-replicate (IsKnown seen) n (record { key = 0; number = 0 }) (λ has_key. absurd (omega (arith, has_key))))
+pub none_known : (n : ℕ) (seen : List (List ℕ)) (known : List Known) → known ≡ replicate n (record { low = 0; high = 0; number = 0 }) → All (IsKnown seen) known
+none_known n seen known e = subst (All (IsKnown seen)) (sym e) (All-replicate (IsKnown seen) n (record { low = 0; high = 0; number = 0 }) (λ has_key. absurd (omega (arith, has_key))))

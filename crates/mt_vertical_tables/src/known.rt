@@ -3,7 +3,7 @@
 ghost use Rattle.std.specs.Prelude.{◌≡◌, ◌-◌, ◌^◌, ◌<◌, ◌≤◌, ℕ, List as Items, [], length, slice_get, Some, IfOk, IfSome, OnOk, OnErr};
 ghost use Rattle.std.specs.List.{All, Contains};
 ghost use Rattle.mt_store_spec.specs.Lexicons.{IsLexiconOf, Renumbers, seen_with};
-ghost use Rattle.mt_vertical_tables.specs.Packing.{IsKnown, IsPacked};
+ghost use Rattle.mt_vertical_tables.specs.Packing.{IsKnown, IsPacked, key_of};
 
 use mt_base::NoMemory;
 use mt_lexicon::{Lexicon, LexiconBuilder, Renumbering};
@@ -14,13 +14,36 @@ use std::marker::Model;
 const PLACE_BITS: u32 = 14;
 
 /// The most bytes of a value that is packed.
-const LONGEST: usize = 15;
+const LONGEST: usize = 11;
 
-/// A value that was seen, packed, and its number. Where the key is 0, it tells of none.
+/// A value that was seen, packed, and its number. The key stands in two parts, so that an entry takes no more than 16 bytes. Where it is 0, the entry tells of none.
 #[derive(Clone, Copy)]
 struct Known {
-    key: u128,
+    low: u64,
+    high: u32,
     number: u32,
+}
+
+impl Known {
+    /// The entry of a value with this key.
+    fn new(key: u128, number: u32) -> Self
+        requires { key < 2 ^ 96 }
+        ensures key { key_of result ≡ key }
+        ensures number { result.number ≡ number }
+    {
+        Known {
+            low: (key % (1 << 64)) as u64,
+            high: (key / (1 << 64)) as u32,
+            number,
+        }
+    }
+
+    /// The key.
+    fn key(&self) -> u128
+        ensures { result ≡ key_of self.now }
+    {
+        u128::from(self.high) * (1 << 64) + u128::from(self.low)
+    }
 }
 
 /// Numbers values as a `LexiconBuilder` does, and is seen as the list of them. Beside it is a table of short values whose numbers are known. The value itself picks its entry
@@ -69,7 +92,7 @@ impl Seen {
             return Ok(number);
         }
         let number = self.builder.add(value)?;
-        put(self.known.as_mut_slice(), place, Known { key, number });
+        put(self.known.as_mut_slice(), place, Known::new(key, number));
         Ok(number)
     }
 
@@ -88,14 +111,19 @@ impl Seen {
 fn no_entries(alloc: Global, count: usize) -> Result<Vec<Known>, NoMemory>
     ensures { IfOk result (λ known. (seen : Items (Items ℕ)) → All (IsKnown seen) known.items) }
 {
-    let known = vec![in alloc; Known { key: 0, number: 0 }; count]?;
+    let known = vec![in alloc; Known {
+        low: 0,
+        high: 0,
+        number: 0
+    }; count]?;
     Ok(known)
 }
 
 /// A short value as one number, in which its bytes stand behind a 1.
 fn packed(value: &str) -> u128
-    requires { length value.now ≤ 15 }
-    ensures { IsPacked value.now result }
+    requires { length value.now ≤ 11 }
+    ensures packed { IsPacked value.now result }
+    ensures low { result < 2 ^ 96 }
 {
     let bytes = value.as_bytes();
     let mut key = 1u128;
@@ -121,7 +149,7 @@ fn number_at(known: &[Known], place: usize, key: u128) -> Option<u32>
         return None;
     }
     let entry = known[place];
-    if entry.key == key {
+    if entry.key() == key {
         Some(entry.number)
     } else {
         None
