@@ -14,6 +14,7 @@ use Rattle.mt_segment_spec.specs.Tables.{AttrTables, AreBaseTables, AreTablesOf,
 use Rattle.mt_vertical_tables.specs.Columns.{AreColumns}
 use Rattle.mt_vertical_tables.specs.Joined.{AreTablesOfVertical, tables_of}
 use Rattle.mt_vertical_tables.specs.Outlines.{IsOutline}
+use Rattle.mt_vertical_tables.proofs.Values.{by_line}
 use Rattle.mt_vertical_tables.proofs.Wide.{AreKnown, all_wide, instances_same, length_same, read_wide, values_wide}
 
 -- ---- tables in parts
@@ -85,7 +86,7 @@ module _ (registry : Registry) (name bytes : List ℕ) (tokens : ℕ) (structs :
   text_of = record { name = name; tokens = tokens_in roles; structs = o.text.structs }
 
   known : AreKnown registry (text_lines bytes)
-  known column l = let c = k.each column (omega (arith, l, count_all registry.attrs bases)) in (c.values, c.are)
+  known column l = let c = k.each column (omega (arith, l, count_all registry.attrs bases)) in (c.values, by_line column (text_lines bytes) c.values c.are)
 
   is_read : Vertical registry name bytes text_of
   is_read = record {
@@ -120,7 +121,7 @@ module _ (registry : Registry) (name bytes : List ℕ) (tokens : ℕ) (structs :
       attr_count = k.count_is;
       bases = λ number l e.
           let c = k.each number l in
-          let is = values_wide registry number 0 (text_lines bytes) o.read.roles c.values (omega (arith, l, count_all registry.attrs bases)) o.read.read c.are in
+          let is = values_wide registry number 0 (text_lines bytes) o.read.roles c.values (omega (arith, l, count_all registry.attrs bases)) o.read.read (by_line number (text_lines bytes) c.values c.are) in
           subst (λ (vs : List (List ℕ)). AreBaseTables vs (tables_at attrs number)) (is ∙ values_are number l e) c.made;
       mapped = λ number base l e. absurd (none-some base (sym (bases number (base_attr []) l) ∙ e));
       kind_count = length-map structs (λ (instances : List StructSpan). instances ∷ []) ∙ ap length o.instances ∙ length-map-range_with_len (λ (kind : ℕ). filter (is_of_kind kind) o.text.structs) 0 (length registry.kinds);

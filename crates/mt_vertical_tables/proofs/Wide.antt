@@ -11,8 +11,8 @@ use Rattle.mt_vertical.specs.Columns.{column_in}
 use Rattle.mt_vertical.specs.Lines.{IsToken}
 use Rattle.mt_vertical.proofs.KeptValues.{first_len, text_from}
 use Rattle.mt_vertical.proofs.OneColumn.{at_front}
-use Rattle.mt_vertical_tables.specs.Columns.{AreValuesIn}
 use Rattle.mt_vertical_tables.specs.Outlines.{narrow}
+use Rattle.mt_vertical_tables.proofs.Values.{ByLine}
 
 -- ---- roles
 
@@ -103,19 +103,19 @@ module _ (registry : Registry) where
 
   -- the values of each column are known
   abbrev pub AreKnown : List (List ℕ) → Type 0
-  AreKnown ls = (column : ℕ) → column < base_count registry.attrs → (values : List (List ℕ)) × AreValuesIn column ls values
+  AreKnown ls = (column : ℕ) → column < base_count registry.attrs → (values : List (List ℕ)) × ByLine column ls values
 
   known_behind : (line : List ℕ) (ls : List (List ℕ)) → AreKnown (line ∷ ls) → AreKnown ls
   known_behind line ls h = λ column l. by column (h column l).0 (h column l).1
     where
-      by : (column : ℕ) (values : List (List ℕ)) → AreValuesIn column (line ∷ ls) values → (vs : List (List ℕ)) × AreValuesIn column ls vs
+      by : (column : ℕ) (values : List (List ℕ)) → ByLine column (line ∷ ls) values → (vs : List (List ℕ)) × ByLine column ls vs
       by column values (inl (none, g)) = (values, g)
       by column values (inr (value, others, e, is, g)) = (others, g)
 
   known_short : (line : List ℕ) (ls : List (List ℕ)) → AreKnown (line ∷ ls) → IsToken line → (column : ℕ) → column < base_count registry.attrs → length (column_in column line) ≤ value_bytes_limit
   known_short line ls h t column l = by (h column l).0 (h column l).1
     where
-      by : (values : List (List ℕ)) → AreValuesIn column (line ∷ ls) values → length (column_in column line) ≤ value_bytes_limit
+      by : (values : List (List ℕ)) → ByLine column (line ∷ ls) values → length (column_in column line) ≤ value_bytes_limit
       by values (inl (none, g)) = absurd (none t)
       by values (inr (value, others, e, is, g)) = subst (λ (v : List ℕ). length v ≤ value_bytes_limit) is.is is.short
 
@@ -158,7 +158,7 @@ module _ (registry : Registry) where
 
   -- ---- the values of the tokens
 
-  pub values_wide : (column place : ℕ) (ls : List (List ℕ)) (roles : List Role) (values : List (List ℕ)) → column < base_count registry.attrs → AreRead (narrow registry) place ls roles → AreValuesIn column ls values →
+  pub values_wide : (column place : ℕ) (ls : List (List ℕ)) (roles : List Role) (values : List (List ℕ)) → column < base_count registry.attrs → AreRead (narrow registry) place ls roles → ByLine column ls values →
       values ≡ map (λ token. value_of token column) (tokens_in (all_wide (base_count registry.attrs) ls roles))
   values_wide column place [] [] values l r e = e
   values_wide column place [] (role ∷ roles) values l r e = absurd r

@@ -1,21 +1,24 @@
 -- The columns of a vertical: the values of its tokens, column by column.
-use Rattle.std.specs.Prelude.{ℕ, ◌≡◌, ◌<◌, ◌≤◌, ◌⊎◌, List, [], ◌∷◌, ◌++◌, length}
+use Rattle.std.specs.Prelude.{ℕ, ◌≡◌, ◌<◌, ◌≤◌, ◌⊎◌, Bool, List, [], ◌∷◌, ◌++◌, length, map, Decides}
+use Rattle.std.specs.List.{All, AllZip}
 use Rattle.mt_text_spec.specs.Texts.{value_bytes_limit}
 use Rattle.mt_vertical.specs.Columns.{column_in}
 use Rattle.mt_vertical.specs.Lines.{IsToken}
+use Rattle.mt_store_spec.specs.Lexicons.{kept_values}
 use Rattle.mt_segment_spec.specs.Tables.{AttrTables, AreBaseTables, tables_at}
+
+-- the values that those of the lines that are tokens have in a column, in order, none of them longer than a value may be
+pub record AreValuesIn (column : ℕ) (ls values : List (List ℕ)) : Type 0 where
+  pub are_tokens : List Bool
+  pub told : AllZip (λ line is_token. Decides is_token (IsToken line)) ls are_tokens
+  pub are : values ≡ map (column_in column) (kept_values are_tokens ls)
+  pub short : All (λ value. length value ≤ value_bytes_limit) values
 
 -- the line is a token, and has this value in a column
 pub record IsValueIn (column : ℕ) (line value : List ℕ) : Type 0 where
   pub token : IsToken line
   pub is : value ≡ column_in column line
   pub short : length value ≤ value_bytes_limit
-
--- the values that those of the lines that are tokens have in a column, in order
-abbrev pub AreValuesIn : ℕ → List (List ℕ) → List (List ℕ) → Type 0
-AreValuesIn column [] values = values ≡ []
-AreValuesIn column (line ∷ ls) values =
-    ((¬ IsToken line) × AreValuesIn column ls values) ⊎ ((value : List ℕ) × (others : List (List ℕ)) × (values ≡ value ∷ others) × IsValueIn column line value × AreValuesIn column ls others)
 
 -- a line more: its value is added if it is a token
 abbrev pub AddsLine : ℕ → List ℕ → List (List ℕ) → List (List ℕ) → Type 0

@@ -10,10 +10,10 @@ use mt_lexicon::{Lexicon, LexiconBuilder, Renumbering};
 use std::alloc::Global;
 use std::marker::Model;
 
-/// So many bits of what is made of a key pick its entry.
+/// So many bits of what is made of a key pick its entry. The 2^14 entries take 256 KB.
 const PLACE_BITS: u32 = 14;
 
-/// The most bytes of a value that is packed.
+/// The most bytes of a value that is packed. With the 1 in front they fill the key of an entry.
 const LONGEST: usize = 11;
 
 /// A value that was seen, packed, and its number. The key stands in two parts, so that an entry takes no more than 16 bytes. Where it is 0, the entry tells of none.
