@@ -6,14 +6,13 @@ ghost use Rattle.std.specs.Thread.{IsSync};
 ghost use Rattle.mt_text_spec.specs.Registries.{ValidRegistry};
 ghost use Rattle.mt_text_spec.specs.Texts.{Text, ValidText};
 ghost use Rattle.mt_text_spec.specs.Words.{IsName};
-ghost use Rattle.std.specs.Str.Lines.{lines};
 ghost use Rattle.mt_file_spec.specs.Vertical.{Vertical, text_lines};
 ghost use Rattle.mt_segment_spec.specs.Tables.{AreTablesOf, AreTablesUnder};
 ghost use Rattle.mt_vertical_tables.specs.Columns.{AreColumns};
 ghost use Rattle.mt_vertical_tables.specs.Joined.{AreTablesOfVertical, tables_of};
 ghost use Rattle.mt_vertical_tables.specs.Outlines.{IsOutline};
 
-use super::columns::{ColumnTables, all_columns, text_of};
+use super::columns::{ColumnTables, vertical_columns};
 use super::outline::{Outline, read_outline};
 use super::unmade::Unmade;
 use mt_base::{Attr, List, NoMemory, Registry, StructSpan, Value};
@@ -103,7 +102,6 @@ fn read_parts<R: Threads + Sync>(
     ensures outline { IfOk result (λ parts. IsOutline registry.now name.now bytes.now parts.0.tokens parts.0.structs) }
     ensures columns { IfOk result (λ parts. AreColumns (text_lines bytes.now) (length registry.now.attrs) parts.1.items) }
 {
-    let text = text_of(bytes)?;
     let count = registry.attrs().len();
     let outline = move || -> Result<Outline, Unmade>
         requires { ValidRegistry registry.now × IsName name.now }
@@ -111,8 +109,8 @@ fn read_parts<R: Threads + Sync>(
     { read_outline(alloc, registry, name, bytes) };
     let columns = move || -> Result<Vec<ColumnTables>, Unmade>
         requires { IsSync R.row }
-        ensures { IfOk result (λ tables. AreColumns (lines text.entry.now) count tables.items) }
-    { all_columns(rt, alloc, text, count) };
+        ensures { IfOk result (λ tables. AreColumns (text_lines bytes.entry.now) count tables.items) }
+    { vertical_columns(rt, alloc, bytes, count) };
     let (outline, columns) = join(rt, outline, columns);
     let outline = outline?;
     let columns = columns?;
