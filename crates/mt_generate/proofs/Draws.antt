@@ -1,5 +1,5 @@
 -- The generator's numbers behind the draws of a token.
-use Rattle.std.proofs.Common.{◌≡◌, ℕ, ◌+◌, ◌*◌, ◌%◌, add-one, ap, ap₂, refl, ◌∙◌, arith, nat_eq}
+use Rattle.std.proofs.Common.{◌≡◌, ℕ, ◌+◌, ◌*◌, ◌%◌, add-one, ap, ap₂, refl, sym, ◌∙◌, arith, nat_eq}
 use Rattle.mt_generate_spec.specs.Draws.{drawn, behind_draws, upper_bits, draw}
 use Rattle.mt_generate_spec.specs.Generated.{token_at, token_of, rank_of}
 
@@ -10,6 +10,13 @@ no_draw seed = refl
 one_more : (seed count next : ℕ) → count + 1 ≡ next → drawn (behind_draws seed count) ≡ behind_draws seed next
 unfolding behind_draws
 one_more seed count next is = rw (← is, add-one)
+
+-- draws that are made beside each other stand one behind the other
+pub second_draw : (number first second : ℕ) → first ≡ drawn number → second ≡ drawn (drawn number) → second ≡ drawn first
+second_draw number first second one two = two ∙ ap drawn (sym one)
+
+pub third_draw : (number first second third : ℕ) → first ≡ drawn number → second ≡ drawn (drawn number) → third ≡ drawn (drawn (drawn number)) → third ≡ drawn second
+third_draw number first second third one two three = three ∙ ap drawn (sym two)
 
 module _ (seed place number first second third : ℕ) (is : number ≡ behind_draws seed (3 * place)) (one : first ≡ drawn number) (two : second ≡ drawn first) (three : third ≡ drawn second) where
   behind_first : first ≡ behind_draws seed (3 * place + 1)

@@ -1,3 +1,4 @@
+pub mod Steps
 pub mod Draws
 pub mod Ranges
 pub mod Rows

@@ -1,6 +1,6 @@
 //! Where the tokens of a generated text come from.
 
-ghost use Rattle.std.specs.Prelude.{◌≡◌, ◌+◌, ◌<◌, ◌^◌};
+ghost use Rattle.std.specs.Prelude.{◌≡◌, ◌+◌, ◌*◌, ◌%◌, ◌<◌, ◌^◌};
 ghost use Rattle.mt_generate_spec.specs.Draws.{drawn, upper_bits};
 ghost use Rattle.mt_generate_spec.specs.Generated.{token_at, token_of, rank_of};
 ghost use Rattle.mt_generate.specs.Sources as spec;
@@ -46,7 +46,7 @@ impl Source {
         }
     }
 
-    /// The next token.
+    /// The next token. Its draws are made beside each other, each from the number before them, so that none waits for another.
     pub fn draw(&mut self) -> Drawn
         requires { self.old.place < 2 ^ 32 }
         ensures next { self.new ≡ record { seed = self.old.seed; place = self.old.place + 1 } }
@@ -54,8 +54,8 @@ impl Source {
         ensures low { result.rank < 1000 }
     {
         let first = behind_draw(self.number);
-        let second = behind_draw(first);
-        let third = behind_draw(second);
+        let second = behind_two(self.number);
+        let third = behind_three(self.number);
         self.number = third;
         self.place += 1;
         Drawn {
@@ -71,6 +71,27 @@ fn behind_draw(number: u64) -> u64
 {
     let product = u128::from(number) * 6_364_136_223_846_793_005;
     ((product + 1_442_695_040_888_963_407) % (1 << 64)) as u64
+}
+
+/// The generator's number behind two more draws: two steps of the generator are one step of another.
+fn behind_two(number: u64) -> u64
+    ensures { result ≡ drawn (drawn number) }
+{
+    step(number, 7_520_897_724_310_334_953, 1_876_011_003_808_476_466)
+}
+
+/// The generator's number behind three more draws.
+fn behind_three(number: u64) -> u64
+    ensures { result ≡ drawn (drawn (drawn number)) }
+{
+    step(number, 793_875_393_913_628_917, 11_166_244_414_315_200_793)
+}
+
+/// A step of a linear congruential generator.
+fn step(number: u64, times: u64, plus: u64) -> u64
+    ensures { result ≡ (number * times + plus) % 2 ^ 64 }
+{
+    number.wrapping_mul(times).wrapping_add(plus)
 }
 
 /// What is drawn where the generator has this number.
