@@ -20,7 +20,7 @@ mod values;
 
 pub use error::{BadLine, TextCause, TextError};
 pub use laws::{no_text_with_fault, one_fault, one_role, one_text, valid_texts};
-pub use lines::token_value;
+pub use lines::{add_token_values, token_value};
 use mt_base::{Lines, Registry, Text, Value};
 use reader::Reader;
 use std::alloc::Global;

@@ -1,6 +1,6 @@
 //! The values that lines give to their text.
 
-ghost use Rattle.std.specs.Prelude.{◌≡◌, ℕ, ◌+◌, ◌∷◌, true, false, List as Items, map, option_map, IfOk, IfSome, IfNone};
+ghost use Rattle.std.specs.Prelude.{◌≡◌, ℕ, ◌+◌, ◌∷◌, ◌++◌, true, false, List as Items, map, option_map, IfOk, IfSome, IfNone};
 ghost use Rattle.mt_file_spec.specs.Tags.{TagAttr as SpelledAttr, tag_value};
 ghost use Rattle.mt_file_spec.specs.VerticalLines.{columns, first_columns};
 ghost use Rattle.mt_vertical.specs.Columns.{column_in};
@@ -47,6 +47,28 @@ pub fn column_values(count: usize, line: &str, row: &mut Strings) -> Result<bool
             return Ok(false);
         }
         row.push(column)?;
+        left = others;
+    }
+    Ok(true)
+}
+
+/// Adds the first columns of a line, so many. Tells whether each is short enough: else those before the first that is not were added.
+pub fn add_column_values<'a>(
+    values: &mut Vec<&'a str>,
+    line: &'a str,
+    count: usize,
+) -> Result<bool, NoMemory>
+    ensures added { IfOk result (λ short. short ≡ true → map (λ value. value.now) values.new.items ≡ map (λ value. value.now) values.old.items ++ first_columns count (columns line.now)) }
+    ensures short { IfOk result (λ short. short ≡ true → AreShort (map (λ value. value.now) values.old.items) → AreShort (map (λ value. value.now) values.new.items)) }
+{
+    values.reserve(count)?;
+    let mut left = Some(line);
+    for _ in 0..count {
+        let (column, others) = next_column(left);
+        if VALUE_BYTES_LIMIT < column.len() {
+            return Ok(false);
+        }
+        values.push_reserved(column);
         left = others;
     }
     Ok(true)
