@@ -8,7 +8,7 @@ use Rattle.mt_text_spec.specs.Registries.{Registry, Attr, base_attr}
 use Rattle.mt_text_spec.specs.Texts.{StructSpan, Text, total_tokens, corpus_tokens_limit}
 use Rattle.mt_segment_spec.specs.Tables.{Tables, AttrTables, AreTablesUnder, HaveParts, tables_at, instances_of, is_of_kind}
 use Rattle.mt_segment.proofs.Values.{based}
-use Rattle.mt_segment.specs.Joined.{AreJoined, HasNumbers, TakesNumbers}
+use Rattle.mt_segment.specs.Joined.{AreJoined, HasNumbers, TakesNumbers, of_one_text}
 use Rattle.mt_segment.specs.Lists.{groups}
 use Rattle.mt_segment.proofs.Blocks.{groups_joined, joined_length}
 
@@ -192,3 +192,16 @@ joined_at attrs others t lexicons its_lexicons columns its_columns mapped its_ma
   mapped_are = e3 ∙ h.mapped_are;
   postings_are = e4 ∙ h.postings_are;
 }
+
+-- ---- the tables of one text
+
+groups_one : {X : Type 0} (lists : List X) → groups 1 (length lists) lists ≡ map (λ list. list ∷ []) lists
+groups_one [] = refl
+groups_one (list ∷ lists) = ap (λ all. (list ∷ []) ∷ all) (groups_one lists)
+
+pub one_text : (name : List ℕ) (tokens : ℕ) (attrs made : List AttrTables) (structs : List (List StructSpan)) (none texts : List (List ℕ × ℕ)) (kinds : ℕ) → none ≡ [] → texts ≡ none ++ (name, tokens) ∷ [] → made ≡ attrs →
+    kinds ≡ length structs → of_one_text name tokens attrs structs ≡ record { texts = texts; attrs = made; structs = groups (length texts) kinds structs }
+one_text name tokens attrs made structs none texts kinds e more a k =
+    let one : texts ≡ (name, tokens) ∷ [] = more ∙ ap (λ (ts : List (List ℕ × ℕ)). ts ++ (name, tokens) ∷ []) e in
+    let all : List (List (List StructSpan)) → Tables = λ structs. record { texts = (name, tokens) ∷ []; attrs = attrs; structs = structs } in
+    rw (one, a, k) (ap all (sym (groups_one structs)))

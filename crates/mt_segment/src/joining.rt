@@ -2,8 +2,8 @@
 
 ghost use Rattle.std.specs.Prelude.{◌≡◌, List as Items, IfOk};
 ghost use Rattle.mt_segment_spec.specs.Tables as spec;
-ghost use Rattle.mt_segment_spec.specs.Tables.{AreTablesUnder, HaveParts};
-ghost use Rattle.mt_segment.specs.Joined.{AreJoined, HasNumbers, TakesNumbers};
+ghost use Rattle.mt_segment_spec.specs.Tables.{AreTables, AreTablesUnder, HaveParts};
+ghost use Rattle.mt_segment.specs.Joined.{AreJoined, HasNumbers, TakesNumbers, of_one_text};
 ghost use Rattle.mt_segment.specs.Numbers.{base_in, numbers_in};
 
 use super::building::inner_ends;
@@ -17,6 +17,30 @@ use mt_postings::Postings;
 use std::alloc::Global;
 
 impl Segment {
+    /// The segment of one valid text that has these tables: its name, how many tokens it has, the tables of each attribute, and its instances, kind by kind. Without
+    /// memory the tables are dropped.
+    pub fn of_text(
+        alloc: Global,
+        name: Value,
+        tokens: u32,
+        attrs: Vec<AttrTables>,
+        structs: Lists<StructSpan>,
+    ) -> Result<Self, NoMemory>
+        requires { AreTables (of_one_text name tokens attrs.items structs) }
+        ensures { IfOk result (λ segment. segment ≡ of_one_text name tokens attrs.items structs) }
+    {
+        let mut texts = List::with_capacity(alloc, 1)?;
+        texts.push((name, tokens))?;
+        let kinds = structs.len() as u16;
+        Ok(Segment::from_parts(
+            texts,
+            Vec::new(alloc),
+            List::from_vec(attrs),
+            kinds,
+            structs,
+        ))
+    }
+
     /// The segment with these tables, which are those of some valid texts: the texts' names and lengths; per attribute the lexicon, and for each of its values
     /// the places; per base attribute the column; per mapped attribute the table; per kind of structure and text the instances. No mapper is called. Without
     /// memory the tables are dropped.

@@ -23,7 +23,8 @@ pub use lists::Lists;
 pub use mapped::has_mappers;
 use mt_base::StructSpan;
 pub use segment::Segment;
-pub use table::{Column, MappedTable};
+pub use sorting::{Sorter, tables_of_values};
+pub use table::{AttrTables, Column, MappedTable};
 
 fn shared<T: Send + Sync>() {}
 
@@ -31,6 +32,7 @@ fn shared<T: Send + Sync>() {}
 pub fn are_shared() {
     shared::<Segment>();
     shared::<Lists<StructSpan>>();
+    shared::<AttrTables>();
     shared::<Column>();
     shared::<MappedTable>();
 }

@@ -1,6 +1,6 @@
 //! Columns and tables of numbers, and the tables of an attribute.
 
-ghost use Rattle.std.specs.Prelude.{◌≡◌, ◌+◌, ◌<◌, length, nat_eq, slice_index};
+ghost use Rattle.std.specs.Prelude.{◌≡◌, ◌+◌, ◌<◌, None, length, nat_eq, slice_index};
 ghost use Rattle.mt_segment.specs.Numbers.{base_in, numbers_in};
 
 use mt_base::{List, Steps};
@@ -123,9 +123,9 @@ impl Numbers {
     }
 }
 
-/// The tables of an attribute.
+/// The tables of an attribute: its lexicon, its numbers, and for each value of the lexicon the places where it stands.
 #[derive(Debug, Drop)]
-pub(crate) struct AttrTables {
+pub struct AttrTables {
     pub(crate) lexicon: Lexicon,
     pub(crate) numbers: Numbers,
     pub(crate) postings: List<Postings>,
@@ -138,4 +138,17 @@ impl Model for AttrTables {
     ghost Value = { spec.AttrTables };
 
     ghost view = { λ a. record { base = base_in a.numbers; lexicon = a.lexicon; numbers = numbers_in a.numbers; postings = a.postings } };
+}
+
+impl AttrTables {
+    /// The tables of a base attribute that has this lexicon, this column, and for each value these places. It takes no memory.
+    pub fn of_base(lexicon: Lexicon, column: Column, postings: List<Postings>) -> Self
+        ensures { result ≡ record { base = None; lexicon = lexicon; numbers = column; postings = postings } }
+    {
+        AttrTables {
+            lexicon,
+            numbers: Numbers::Base(column),
+            postings,
+        }
+    }
 }
