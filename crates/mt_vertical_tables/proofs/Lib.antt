@@ -2,6 +2,8 @@ pub mod Beside
 pub mod Lists
 pub mod Narrow
 pub mod Packing
+pub mod Plain
+pub mod Rows
 pub mod Tables
 pub mod Values
 pub mod Wide

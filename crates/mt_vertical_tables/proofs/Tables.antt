@@ -10,50 +10,17 @@ use Rattle.mt_text_spec.specs.Registries.{Attr, Registry, ValidRegistry, base_at
 use Rattle.mt_text_spec.specs.Texts.{StructSpan, Text, Token, ValidCorpus, ValidText, value_of}
 use Rattle.mt_file_spec.specs.VerticalLines.{Role}
 use Rattle.mt_file_spec.specs.Vertical.{Vertical, text_lines, tokens_in}
-use Rattle.mt_segment_spec.specs.Tables.{AttrTables, AreBaseTables, AreTablesOf, AreTablesUnder, HaveParts, attr_at, attr_values, instances_of, is_of_kind, tables_at, value_by}
+use Rattle.mt_segment_spec.specs.Tables.{AttrTables, AreBaseTables, AreTables, AreTablesOf, attr_at, attr_values, instances_of, is_of_kind, tables_at, value_by}
 use Rattle.mt_vertical_tables.specs.Columns.{AreColumns}
-use Rattle.mt_vertical_tables.specs.Joined.{AreTablesOfVertical, tables_of}
+use Rattle.mt_segment.specs.Joined.{of_one_text}
+use Rattle.mt_vertical_tables.specs.Joined.{AreTablesOfVertical}
 use Rattle.mt_vertical_tables.specs.Outlines.{IsOutline}
 use Rattle.mt_vertical_tables.proofs.Values.{by_line}
 use Rattle.mt_vertical_tables.proofs.Wide.{AreKnown, all_wide, instances_same, length_same, read_wide, values_wide}
 
--- ---- tables in parts
-
-flat : (lists : List (List StructSpan)) → lists ≡ flat_map (λ kind. kind) (map (λ instances. instances ∷ []) lists)
-flat [] = refl
-flat (spans ∷ lists) = ap (λ (all : List (List StructSpan)). spans ∷ all) (flat lists)
-
--- tables of base attributes are all among those of base attributes, and none among those of mapped ones
-kept_all : (attrs : List AttrTables) → All (λ t. t.base ≡ None) attrs → filter (λ t. is_none t.base) attrs ≡ attrs
-kept_all [] h = refl
-kept_all (t ∷ attrs) h =
-    let e : is_none t.base ≡ true = ap is_none (All-head (λ (t : AttrTables). t.base ≡ None) t attrs h) in
-    ap (λ (b : Bool). cond b (t ∷ filter (λ t. is_none t.base) attrs) (filter (λ t. is_none t.base) attrs)) e ∙ ap (λ (ts : List AttrTables). t ∷ ts) (kept_all attrs (All-tail (λ (t : AttrTables). t.base ≡ None) t attrs h))
-
-kept_none : (attrs : List AttrTables) → All (λ t. t.base ≡ None) attrs → filter (λ t. is_some t.base) attrs ≡ []
-kept_none [] h = refl
-kept_none (t ∷ attrs) h =
-    let e : is_some t.base ≡ false = ap is_some (All-head (λ (t : AttrTables). t.base ≡ None) t attrs h) in
-    ap (λ (b : Bool). cond b (t ∷ filter (λ t. is_some t.base) attrs) (filter (λ t. is_some t.base) attrs)) e ∙ kept_none attrs (All-tail (λ (t : AttrTables). t.base ≡ None) t attrs h)
-
-pub heads_are : (name own : List ℕ) (tokens : ℕ) (none texts : List (List ℕ × ℕ)) → none ≡ [] → own ≡ name → texts ≡ none ++ (own, tokens) ∷ [] → texts ≡ (name, tokens) ∷ []
-heads_are name own tokens none texts e n more = more ∙ ap (λ (ts : List (List ℕ × ℕ)). ts ++ (own, tokens) ∷ []) e ∙ ap (λ (name : List ℕ). (name, tokens) ∷ []) n
-
-pub parts_are : (name : List ℕ) (tokens : ℕ) (structs : List (List StructSpan)) (attrs : List AttrTables) (texts : List (List ℕ × ℕ)) (lexicons : List (List (List ℕ))) (columns mapped : List (List ℕ)) (postings : List (List (List ℕ))) →
-    All (λ t. t.base ≡ None) attrs → texts ≡ (name, tokens) ∷ [] → lexicons ≡ map (λ t. t.lexicon) attrs → columns ≡ map (λ t. t.numbers) attrs → mapped ≡ [] → postings ≡ map (λ t. t.postings) attrs →
-    HaveParts (tables_of name tokens structs attrs) texts lexicons columns mapped postings structs
-parts_are name tokens structs attrs texts lexicons columns mapped postings h t l c m p = record {
-  texts_are = t;
-  lexicons_are = l;
-  columns_are = c ∙ ap (λ (ts : List AttrTables). map (λ t. t.numbers) ts) (sym (kept_all attrs h));
-  mapped_are = m ∙ ap (λ (ts : List AttrTables). map (λ t. t.numbers) ts) (sym (kept_none attrs h));
-  postings_are = p;
-  structs_are = flat structs;
-}
-
 -- ---- base attributes
 
-count_all : (attrs : List Attr) → All (λ attr. attr.base ≡ None) attrs → base_count attrs ≡ length attrs
+pub count_all : (attrs : List Attr) → All (λ attr. attr.base ≡ None) attrs → base_count attrs ≡ length attrs
 count_all [] h = refl
 count_all (attr ∷ attrs) h =
     let e : is_base attr ≡ true = ap is_none (All-head (λ (a : Attr). a.base ≡ None) attr attrs h) in
@@ -97,9 +64,6 @@ module _ (registry : Registry) (name bytes : List ℕ) (tokens : ℕ) (structs :
     structs = o.read.structs ∙ sym (instances_same (base_count registry.attrs) (length registry.kinds) (text_lines bytes) o.read.roles);
   }
 
-  pub all_based : All (λ t. t.base ≡ None) attrs
-  all_based = All-from_get_or (λ (t : AttrTables). t.base ≡ None) attrs (tables_at [] 0) (λ number l. (k.each number (omega (arith, l, k.count_is))).made.unmapped)
-
   module _ (images : List ℕ → List ℕ → List ℕ) where
     values_are : (number : ℕ) → number < length registry.attrs → (attr_at registry number).base ≡ None → map (λ token. value_of token number) (tokens_in roles) ≡ attr_values images registry (text_of ∷ []) number
     values_are number l e =
@@ -115,7 +79,7 @@ module _ (registry : Registry) (name bytes : List ℕ) (tokens : ℕ) (structs :
         get_or-map (λ (instances : List StructSpan). instances ∷ []) structs kind [] [] (omega (arith, l, many))
         ∙ ap (λ (lists : List (List StructSpan)). get_or lists kind [] ∷ []) o.instances ∙ ap (λ (spans : List StructSpan). spans ∷ []) (get_or-map-range_with_len of_kind 0 (length registry.kinds) kind kind [] l (omega arith))
 
-    are_tables : AreTablesOf images registry (text_of ∷ []) (tables_of name tokens structs attrs)
+    are_tables : AreTablesOf images registry (text_of ∷ []) (of_one_text name tokens attrs structs)
     are_tables = record {
       texts = ap (λ (n : ℕ). (name, n) ∷ []) (o.count ∙ ap length o.read.tokens ∙ sym (length_same (base_count registry.attrs) (text_lines bytes) o.read.roles));
       attr_count = k.count_is;
@@ -129,11 +93,14 @@ module _ (registry : Registry) (name bytes : List ℕ) (tokens : ℕ) (structs :
     }
 
   module _ (valid : ValidRegistry registry) (valid_text : (text : Text) → Vertical registry name bytes text → ValidText registry text) where
-    pub are_under : AreTablesUnder registry (tables_of name tokens structs attrs)
-    are_under = record {
-      images = λ mapper value. value;
-      by = record { valid = valid; corpus = text_of ∷ []; texts = valid_alone registry text_of (valid_text text_of is_read); some = omega arith; are = are_tables (λ mapper value. value) };
+    pub are_some : AreTables (of_one_text name tokens attrs structs)
+    are_some = record {
+      registry = registry;
+      under = record {
+        images = λ mapper value. value;
+        by = record { valid = valid; corpus = text_of ∷ []; texts = valid_alone registry text_of (valid_text text_of is_read); some = omega arith; are = are_tables (λ mapper value. value) };
+      };
     }
 
-    pub are_of_vertical : AreTablesOfVertical registry name bytes (tables_of name tokens structs attrs)
+    pub are_of_vertical : AreTablesOfVertical registry name bytes (of_one_text name tokens attrs structs)
     are_of_vertical = (text_of, is_read, valid_text text_of is_read, are_tables)

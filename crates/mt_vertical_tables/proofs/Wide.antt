@@ -125,7 +125,7 @@ module _ (registry : Registry) where
   narrow_token : (line : List ℕ) (token : Token) → IsTokenLine registry line token → Plays (narrow registry) line (Gives (record { values = first_columns 1 (columns line) }))
   narrow_token line token t = record { stays = t.stays; untagged = t.untagged; are = refl }
 
-  not_long : (line : List ℕ) (token : Token) → IsTokenLine registry line token → ((column : ℕ) → column < base_count registry.attrs → length (column_in column line) ≤ value_bytes_limit) →
+  pub not_long : (line : List ℕ) (token : Token) → IsTokenLine registry line token → ((column : ℕ) → column < base_count registry.attrs → length (column_in column line) ≤ value_bytes_limit) →
       Any (λ value. value_bytes_limit < length value) token.values → ⊥
   not_long line token t short (column, d, l, is, long) =
       let n = base_count registry.attrs in

@@ -1,13 +1,9 @@
--- The tables of one text, put together.
+-- The tables of the text that a vertical is.
 use Rattle.std.specs.Prelude.{ℕ, List, [], ◌∷◌, map}
 use Rattle.mt_text_spec.specs.Registries.{Registry}
 use Rattle.mt_text_spec.specs.Texts.{StructSpan, Text, ValidText}
 use Rattle.mt_file_spec.specs.Vertical.{Vertical}
 use Rattle.mt_segment_spec.specs.Tables.{AttrTables, Tables, AreTablesOf}
-
--- the instances of each kind are those of one text
-abbrev pub tables_of : List ℕ → ℕ → List (List StructSpan) → List AttrTables → Tables
-tables_of name tokens structs attrs = record { texts = (name, tokens) ∷ []; attrs = attrs; structs = map (λ instances. instances ∷ []) structs }
 
 -- the tables of the text of this name that the bytes are read as
 abbrev pub AreTablesOfVertical : Registry → List ℕ → List ℕ → Tables → Type 0

@@ -2,3 +2,4 @@ pub mod Columns
 pub mod Joined
 pub mod Outlines
 pub mod Packing
+pub mod Rows

@@ -10,35 +10,15 @@ use super::numbering::Numbering;
 use super::unmade::Unmade;
 use mt_base::List;
 use mt_base::limits::{TEXT_TOKENS_LIMIT, VALUE_BYTES_LIMIT};
-use mt_lexicon::Lexicon;
-use mt_postings::Postings;
-use mt_segment::{Column, postings_of};
+use mt_segment::{AttrTables, Column, postings_of};
 use mt_vertical::{token_value, without_mark};
 use rayon::prelude::*;
 use std::alloc::Global;
-use std::marker::Model;
 use std::str;
 use std::thread::Threads;
 
-/// The tables of a column.
-#[derive(Drop)]
-pub(crate) struct ColumnTables {
-    pub(crate) lexicon: Lexicon,
-    pub(crate) column: Column,
-    pub(crate) postings: List<Postings>,
-}
-
-impl Model for ColumnTables {
-    ghost use Rattle.std.specs.Prelude.{None};
-    ghost use Rattle.mt_segment_spec.specs.Tables as spec;
-
-    ghost Value = { spec.AttrTables };
-
-    ghost view = { λ t. record { base = None; lexicon = t.lexicon; numbers = t.column; postings = t.postings } };
-}
-
 /// What a vertical has behind its byte order mark, where that is text. All columns are read from it, so it is tested once.
-fn text_of(bytes: &[u8]) -> Result<&str, Unmade>
+pub(crate) fn text_of(bytes: &[u8]) -> Result<&str, Unmade>
     ensures { IfOk result (λ text. text.now ≡ vertical.without_mark bytes.now) }
 {
     match str::from_utf8(without_mark(bytes)) {
@@ -53,7 +33,7 @@ pub(crate) fn vertical_columns<R: Threads + Sync>(
     alloc: Global,
     bytes: &[u8],
     count: usize,
-) -> Result<Vec<ColumnTables>, Unmade>
+) -> Result<Vec<AttrTables>, Unmade>
     ensures { IfOk result (λ tables. AreColumns (vertical.text_lines bytes.now) count tables.items) }
 {
     let text = text_of(bytes)?;
@@ -67,14 +47,14 @@ fn all_columns<R: Threads + Sync>(
     alloc: Global,
     text: &str,
     count: usize,
-) -> Result<Vec<ColumnTables>, Unmade>
+) -> Result<Vec<AttrTables>, Unmade>
     ensures { IfOk result (λ tables. AreColumns (lines text.now) count tables.items) }
 {
-    let made: Result<Vec<ColumnTables>, Unmade> = (0..count)
+    let made: Result<Vec<AttrTables>, Unmade> = (0..count)
         .into_par_iter()
         .with_min_len(1)
         .map(
-            |column: usize| -> Result<ColumnTables, Unmade>
+            |column: usize| -> Result<AttrTables, Unmade>
                 ensures { IfOk result (λ tables. IsColumnOf (lines text.entry.now) column tables) }
             { column_tables(alloc, text, column) },
         )
@@ -83,17 +63,14 @@ fn all_columns<R: Threads + Sync>(
 }
 
 /// The tables of a column of a text's lines.
-fn column_tables(alloc: Global, text: &str, column: usize) -> Result<ColumnTables, Unmade>
+fn column_tables(alloc: Global, text: &str, column: usize) -> Result<AttrTables, Unmade>
     ensures { IfOk result (λ tables. IsColumnOf (lines text.now) column tables) }
 {
     let numbering = number_lines(alloc, text, column)?;
     let (lexicon, numbers) = numbering.finish()?;
     let postings = postings_of(alloc, numbers.as_slice(), lexicon.len() as usize)?;
-    Ok(ColumnTables {
-        lexicon,
-        column: Column::new(List::from_vec(numbers)),
-        postings,
-    })
+    let column = Column::new(List::from_vec(numbers));
+    Ok(AttrTables::of_base(lexicon, column, postings))
 }
 
 /// The values in a column of a text's lines, numbered.

@@ -1,11 +1,12 @@
-//! The segment of a large text, made from the bytes of its vertical.
+//! The segment of a large or a small text, made from the bytes of its vertical.
 //!
-//! Where no attribute is mapped, each column of a vertical is numbered by a thread of its own, which goes over the lines by itself, and the structures are read by
-//! one more. So no text is made of whose values the tables are made again. Whatever has a cause to refuse the bytes is left to the reader of texts: no tables are
-//! made then.
+//! Where no attribute is mapped, each column of a large vertical is numbered by a thread of its own, which goes over the lines by itself, and the structures are
+//! read by one more. Of a small vertical whose lines are all tokens the values of each column are sorted. So no text is made of whose values the tables are made
+//! again. Whatever has a cause to refuse the bytes is left to the reader of texts: no tables are made then.
 #![tactic(auto)]
 
 mod columns;
+mod few;
 mod known;
 mod numbering;
 mod outline;

@@ -39,6 +39,17 @@ pub(crate) fn read_outline(
     })
 }
 
+/// No instances of so many kinds.
+pub(crate) fn no_instances(alloc: Global, kinds: u16) -> Result<Lists<StructSpan>, NoMemory>
+    ensures { IfOk result (λ all. all ≡ kind_by_kind kinds []) }
+{
+    let mut all = Lists::with_capacity(alloc, kinds as usize, 0)?;
+    for _ in 0..kinds {
+        all.begin()?;
+    }
+    Ok(all)
+}
+
 /// The registry with the same kinds of structures and one base attribute alone.
 fn narrowed(alloc: Global, registry: &Registry) -> Result<Registry, NoMemory>
     ensures { IfOk result (λ narrowed. narrowed ≡ narrow registry.now) }

@@ -7,22 +7,25 @@ ghost use Rattle.mt_text_spec.specs.Registries.{ValidRegistry};
 ghost use Rattle.mt_text_spec.specs.Texts.{Text, ValidText};
 ghost use Rattle.mt_text_spec.specs.Words.{IsName};
 ghost use Rattle.mt_file_spec.specs.Vertical.{Vertical, text_lines};
-ghost use Rattle.mt_segment_spec.specs.Tables.{AreTablesOf, AreTablesUnder};
+ghost use Rattle.mt_segment_spec.specs.Tables.{AreTables, AreTablesOf};
+ghost use Rattle.mt_segment.specs.Joined.{of_one_text};
 ghost use Rattle.mt_vertical_tables.specs.Columns.{AreColumns};
-ghost use Rattle.mt_vertical_tables.specs.Joined.{AreTablesOfVertical, tables_of};
+ghost use Rattle.mt_vertical_tables.specs.Joined.{AreTablesOfVertical};
 ghost use Rattle.mt_vertical_tables.specs.Outlines.{IsOutline};
 
-use super::columns::{ColumnTables, vertical_columns};
-use super::outline::{Outline, read_outline};
+use super::columns::{text_of, vertical_columns};
+use super::few::{read_rows, row_columns};
+use super::outline::{Outline, no_instances, read_outline};
 use super::unmade::Unmade;
-use mt_base::{Attr, List, NoMemory, Registry, StructSpan, Value};
-use mt_lexicon::Lexicon;
-use mt_postings::Postings;
-use mt_segment::{Column, Lists, Segment};
+use mt_base::{Attr, NoMemory, Registry, Value};
+use mt_segment::{AttrTables, Segment};
 use mt_vertical::valid_texts;
 use rayon::{current_num_threads, join};
 use std::alloc::Global;
 use std::thread::Threads;
+
+/// Of so many bytes and fewer the values are sorted sooner than they are numbered as they are seen.
+const FEW: usize = 1 << 10;
 
 /// So many bytes take far longer to read than starting threads does.
 const MANY: usize = 1 << 18;
@@ -30,9 +33,9 @@ const MANY: usize = 1 << 18;
 /// With fewer threads the lines are gone over by one thread sooner than once for each column.
 const FEWEST_THREADS: usize = 3;
 
-/// The segment of the text of this name that the bytes are read as, made by several threads, none of which makes the text. None where that is not the way for
-/// these bytes: they are few, the machine has few threads, an attribute is mapped, or a line has a cause to refuse the text. Nothing more is said of the bytes then,
-/// and the reader of texts decides.
+/// The segment of the text of this name that the bytes are read as, made without the text: that of a large one by several threads, that of a small one whose lines
+/// are all tokens by one. None where that is not the way for these bytes: they are neither many nor few, the machine has few threads for many, an attribute is
+/// mapped, or a line is no token of few or has a cause to refuse the text. Nothing more is said of the bytes then, and the reader of texts decides.
 pub fn read_tables<R: Threads + Sync>(
     rt: &R,
     alloc: Global,
@@ -45,17 +48,36 @@ pub fn read_tables<R: Threads + Sync>(
     ensures { IfOk result (λ found. IfSome found (λ segment. (text : Text) × Vertical registry.now name.now bytes.now text × ValidText registry.now text ×
         ((images : Items ℕ → Items ℕ → Items ℕ) → AreTablesOf images registry.now (text ∷ []) segment))) }
 {
-    if bytes.len() < MANY || current_num_threads(rt) < FEWEST_THREADS {
-        return Ok(None);
-    }
     if !are_all_base(registry.attrs().as_slice()) {
         return Ok(None);
     }
-    match read_segment(rt, alloc, registry, name, bytes) {
+    match make_segment(rt, alloc, registry, name, bytes) {
         Ok(segment) => Ok(Some(segment)),
         Err(Unmade::Refused) => Ok(None),
         Err(Unmade::NoMemory) => Err(NoMemory),
     }
+}
+
+/// The same, in the way that so many bytes are read sooner.
+fn make_segment<R: Threads + Sync>(
+    rt: &R,
+    alloc: Global,
+    registry: &Registry,
+    name: &Value,
+    bytes: &[u8],
+) -> Result<Segment, Unmade>
+    requires registry { ValidRegistry registry.now }
+    requires name { IsName name.now }
+    requires bases { All (λ attr. attr.base ≡ None) registry.now.attrs }
+    ensures { IfOk result (λ segment. AreTablesOfVertical registry.now name.now bytes.now segment) }
+{
+    if bytes.len() <= FEW {
+        return read_few(alloc, registry, name, bytes);
+    }
+    if bytes.len() < MANY || current_num_threads(rt) < FEWEST_THREADS {
+        return Err(Unmade::Refused);
+    }
+    read_segment(rt, alloc, registry, name, bytes)
 }
 
 /// Whether none of these attributes is mapped.
@@ -85,7 +107,7 @@ fn read_segment<R: Threads + Sync>(
 {
     valid_texts();
     let (outline, columns) = read_parts(rt, alloc, registry, name, bytes)?;
-    let segment = of_columns(alloc, registry, name, outline, columns)?;
+    let segment = of_columns(alloc, name, outline, columns)?;
     Ok(segment)
 }
 
@@ -96,7 +118,7 @@ fn read_parts<R: Threads + Sync>(
     registry: &Registry,
     name: &Value,
     bytes: &[u8],
-) -> Result<(Outline, Vec<ColumnTables>), Unmade>
+) -> Result<(Outline, Vec<AttrTables>), Unmade>
     requires registry { ValidRegistry registry.now }
     requires name { IsName name.now }
     ensures outline { IfOk result (λ parts. IsOutline registry.now name.now bytes.now parts.0.tokens parts.0.structs) }
@@ -107,7 +129,7 @@ fn read_parts<R: Threads + Sync>(
         requires { ValidRegistry registry.now × IsName name.now }
         ensures { IfOk result (λ outline. IsOutline registry.entry.now name.entry.now bytes.entry.now outline.tokens outline.structs) }
     { read_outline(alloc, registry, name, bytes) };
-    let columns = move || -> Result<Vec<ColumnTables>, Unmade>
+    let columns = move || -> Result<Vec<AttrTables>, Unmade>
         requires { IsSync R.row }
         ensures { IfOk result (λ tables. AreColumns (text_lines bytes.entry.now) count tables.items) }
     { vertical_columns(rt, alloc, bytes, count) };
@@ -117,58 +139,46 @@ fn read_parts<R: Threads + Sync>(
     Ok((outline, columns))
 }
 
-/// The segment of a text of this name with this outline and these tables of its columns.
-fn of_columns(
+/// The segment of the text of this name that the bytes are read as, where they are few lines and each is a token.
+fn read_few(
     alloc: Global,
     registry: &Registry,
     name: &Value,
-    outline: Outline,
-    columns: Vec<ColumnTables>,
-) -> Result<Segment, NoMemory>
-    requires bases { All (λ t. t.base ≡ None) columns.items }
-    requires under { AreTablesUnder registry.now (tables_of name.now outline.tokens outline.structs columns.items) }
-    ensures { IfOk result (λ segment. segment ≡ tables_of name.now outline.tokens outline.structs columns.items) }
+    bytes: &[u8],
+) -> Result<Segment, Unmade>
+    requires registry { ValidRegistry registry.now }
+    requires name { IsName name.now }
+    requires bases { All (λ attr. attr.base ≡ None) registry.now.attrs }
+    ensures { IfOk result (λ segment. AreTablesOfVertical registry.now name.now bytes.now segment) }
 {
-    let mut texts = List::with_capacity(alloc, 1)?;
-    texts.push((name.copy(alloc)?, outline.tokens))?;
-    let parts = part(alloc, columns)?;
-    Segment::of_tables(
+    valid_texts();
+    let text = text_of(bytes)?;
+    let count = registry.attrs().len();
+    let rows = read_rows(alloc, text, count)?;
+    let columns = row_columns(alloc, &rows, count)?;
+    let outline = Outline {
+        tokens: rows.tokens as u32,
+        structs: no_instances(alloc, registry.kinds().len() as u16)?,
+    };
+    let segment = of_columns(alloc, name, outline, columns)?;
+    Ok(segment)
+}
+
+/// The segment of a text of this name with this outline and these tables of its columns.
+fn of_columns(
+    alloc: Global,
+    name: &Value,
+    outline: Outline,
+    columns: Vec<AttrTables>,
+) -> Result<Segment, NoMemory>
+    requires { AreTables (of_one_text name.now outline.tokens columns.items outline.structs) }
+    ensures { IfOk result (λ segment. segment ≡ of_one_text name.now outline.tokens columns.items outline.structs) }
+{
+    Segment::of_text(
         alloc,
-        registry,
-        texts,
-        parts.lexicons,
-        parts.columns,
-        List::new(alloc),
-        parts.postings,
+        name.copy(alloc)?,
+        outline.tokens,
+        columns,
         outline.structs,
     )
-}
-
-/// The tables of columns in parts.
-#[derive(Drop)]
-struct Parts {
-    lexicons: List<Lexicon>,
-    columns: List<Column>,
-    postings: List<List<Postings>>,
-}
-
-/// Takes tables apart.
-fn part(alloc: Global, tables: Vec<ColumnTables>) -> Result<Parts, NoMemory>
-    ensures lexicons { IfOk result (λ parts. parts.lexicons ≡ map (λ t. t.lexicon) tables.items) }
-    ensures columns { IfOk result (λ parts. parts.columns ≡ map (λ t. t.numbers) tables.items) }
-    ensures postings { IfOk result (λ parts. parts.postings ≡ map (λ t. t.postings) tables.items) }
-{
-    let mut lexicons = List::with_capacity(alloc, tables.len())?;
-    let mut columns = List::with_capacity(alloc, tables.len())?;
-    let mut postings = List::with_capacity(alloc, tables.len())?;
-    for each in tables {
-        lexicons.push(each.lexicon)?;
-        columns.push(each.column)?;
-        postings.push(each.postings)?;
-    }
-    Ok(Parts {
-        lexicons,
-        columns,
-        postings,
-    })
 }

@@ -7,7 +7,7 @@ use std::alloc::AllocError;
 /// Why no tables are made.
 #[derive(Debug, Drop)]
 pub(crate) enum Unmade {
-    /// A line has a cause to refuse the text, or may have one.
+    /// A line has a cause to refuse the text, or may have one, or this is not the way to read it.
     Refused,
     /// There was not enough memory. This says nothing of the bytes.
     NoMemory,

@@ -15,13 +15,13 @@ pub returns : goal.returns
 returns c =
     let lexicon = c.in_ok-lexicon.lexicon in
     let values = c.in_ok-numbering.numbering in
-    let column : c.new.result ≡ c.in_ok-lexicon.numbers.items = c.new.ensures ∙ c.from_vec.ensures in
-    let read : c.as_slice.result.now ≡ c.new.result = c.as_slice.ensures.value ∙ sym column in
-    let numbers : Renumbers c.new.result values lexicon = rw column c.in_ok-lexicon.ensures.numbers in
-    let lists : AreInverted c.new.result (length lexicon) c.in_ok-postings.postings =
-    subst (λ (n : ℕ). AreInverted c.new.result n c.in_ok-postings.postings) c.len.ensures.number (subst (λ (ns : List ℕ). AreInverted ns c.len.result c.in_ok-postings.postings) read c.in_ok-postings.ensures) in
+    let column : c.new-column.result ≡ c.in_ok-lexicon.numbers.items = c.new-column.ensures ∙ c.from_vec.ensures in
+    let read : c.as_slice.result.now ≡ c.new-column.result = c.as_slice.ensures.value ∙ sym column in
+    let numbers : Renumbers c.new-column.result values lexicon = rw column c.in_ok-lexicon.ensures.numbers in
+    let lists : AreInverted c.new-column.result (length lexicon) c.in_ok-postings.postings =
+    subst (λ (n : ℕ). AreInverted c.new-column.result n c.in_ok-postings.postings) c.len.ensures.number (subst (λ (ns : List ℕ). AreInverted ns c.len.result c.in_ok-postings.postings) read c.in_ok-postings.ensures) in
     record {
       values = values;
       are = c.in_ok-numbering.ensures.values;
-      made = base_made (record { base = None; lexicon = lexicon; numbers = c.new.result; postings = c.in_ok-postings.postings }) values refl c.in_ok-lexicon.ensures.lexicon numbers lists;
+      made = rw c.of_base.ensures (base_made (record { base = None; lexicon = lexicon; numbers = c.new-column.result; postings = c.in_ok-postings.postings }) values refl c.in_ok-lexicon.ensures.lexicon numbers lists);
     }
