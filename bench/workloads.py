@@ -77,9 +77,9 @@ def many_texts(path, texts, tokens, begin="", front=()):
                 out.write(f"l{lemma}\t{'NJVD'[lemma % 4]}\tl{lemma}\n")
 
 
-def refused_texts(path, texts, tokens):
+def refused_texts(path, texts, tokens, front=()):
     """Writes the script of `many_texts` with a last line in each text that is no UTF-8, so that each is read and none is held."""
-    many_texts(path, texts, tokens)
+    many_texts(path, texts, tokens, "", front)
     with open(path, "rb") as held:
         script = held.read()
     with open(path, "wb") as out:
