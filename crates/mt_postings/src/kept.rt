@@ -2,56 +2,52 @@
 
 ghost use Rattle.std.specs.Prelude.{◌≡◌, ℕ, ◌+◌, ◌<◌, ◌≤◌, List as Items, ◌++◌, length, IfOk, OnOk, OnErr};
 ghost use Rattle.mt_store_spec.specs.Positions.{ArePositions};
-ghost use Rattle.mt_postings.specs.Forms.{positions_kept, IsFitting};
+ghost use Rattle.mt_postings.specs.Forms.{positions_in_place, positions_kept, IsFitting};
 
 use super::coded::Coded;
 use mt_base::NoMemory;
 use std::alloc::Global;
-use std::marker::Model;
 
 /// So many positions are kept in place.
-const FEW: usize = 4;
+const FEW: usize = 3;
 
 /// So many are kept as numbers.
 const SHORT: usize = 128;
 
-/// Up to four positions, in no block of their own.
+/// Up to three positions, in no block of their own. The variant tells how many they are.
 #[derive(Debug, Drop)]
-pub(crate) struct Few {
-    positions: [u32; 4],
-    count: u8,
-}
-
-impl Model for Few {
-    ghost use Rattle.std.specs.Prelude.{ℕ, List, ◌≤◌, take};
-
-    ghost Value = { List ℕ };
-
-    ghost view = { λ f. take f.count f.positions };
-
-    ghost invariant = { λ f. f.count ≤ 4 };
+pub(crate) enum Few {
+    Zero,
+    One([u32; 1]),
+    Two([u32; 2]),
+    Three([u32; 3]),
 }
 
 impl Few {
     /// The list of these positions.
     fn from_slice(positions: &[u32]) -> Self
-        requires { length positions.now ≤ 4 }
-        ensures { result ≡ positions.now }
+        requires { length positions.now ≤ 3 }
+        ensures { positions_in_place result ≡ positions.now }
     {
-        let mut few = [0; 4];
-        few[..positions.len()].copy_from_slice(positions);
-        Few {
-            positions: few,
-            count: positions.len() as u8,
+        match positions.len() {
+            0 => Few::Zero,
+            1 => Few::One([positions[0]]),
+            2 => Few::Two([positions[0], positions[1]]),
+            _ => Few::Three([positions[0], positions[1], positions[2]]),
         }
     }
 
     /// All of them.
     pub(crate) fn as_slice(&self) -> &[u32]
-        ensures all { result.now ≡ self.now }
-        ensures few { length self.now ≤ 4 }
+        ensures all { result.now ≡ positions_in_place self.now }
+        ensures few { length result.now ≤ 3 }
     {
-        &self.positions[..self.count as usize]
+        match self {
+            Few::Zero => &[],
+            Few::One(positions) => positions,
+            Few::Two(positions) => positions,
+            Few::Three(positions) => positions,
+        }
     }
 }
 

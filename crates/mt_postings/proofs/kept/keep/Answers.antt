@@ -5,7 +5,7 @@ pub returns-then-positions-le-FEW-clause-all : goal.returns-then-positions-le-FE
 returns-then-positions-le-FEW-clause-all c = c.from_slice.ensures
 
 pub returns-then-positions-le-FEW-clause-fitting : goal.returns-then-positions-le-FEW-clause-fitting
-returns-then-positions-le-FEW-clause-fitting c = subst (λ x. length x ≤ 4) (sym c.from_slice.ensures) c.if-positions-le-FEW.true
+returns-then-positions-le-FEW-clause-fitting c = subst (λ x. length x ≤ 3) (sym c.from_slice.ensures) c.if-positions-le-FEW.true
 
 pub returns-then-positions-le-SHORT-clause-all : goal.returns-then-positions-le-SHORT-clause-all
 returns-then-positions-le-SHORT-clause-all c = ap (λ v. v.items) c.in_ok-new.ensures.ok ∙ c.in_ok-from_slice.ensures.items
