@@ -1,3 +1,4 @@
+pub mod Added
 pub mod AttrForms
 pub mod Columns
 pub mod Filled
@@ -5,6 +6,7 @@ pub mod KeptInstances
 pub mod KeptValues
 pub mod LineKinds
 pub mod LineRoles
+pub mod LinesRead
 pub mod OneColumn
 pub mod OneRole
 pub mod OneText

@@ -12,7 +12,7 @@ use Rattle.mt_file_spec.specs.Vertical.{TextCause, NotUtf8, TooManyTokens, Value
 use Rattle.mt_vertical.specs.declared.tags.Form.{Form}
 use Rattle.mt_vertical.specs.declared.tags.Form.TheVariants as form
 use Rattle.mt_vertical.specs.Lines.{IsToken}
-use Rattle.mt_vertical.specs.Readers.{State, Did, IsSound, HasReadLine, Refuses, AreShort, HasLong, token_role}
+use Rattle.mt_vertical.specs.Readers.{State, Kept, Did, DidKinds, state_of, step, IsSound, HasReadLine, Refuses, AreShort, HasLong, token_role}
 use Rattle.mt_vertical.specs.TagReading.{ReadsAttrs}
 use Rattle.mt_vertical.specs.TagForms.{IsFound, tag_of}
 use Rattle.mt_vertical.proofs.Steps.{same}
@@ -83,6 +83,15 @@ foreign_read registry state f name region v s n line u h = passes registry state
 ))
 
 -- ## Tags of declared kinds
+
+pub did_kinds : (columns place : ℕ) (tokens : List Token) (old new : List Kept) (role : Role) → place ≡ length tokens → token_in role ≡ [] → DidKinds place old role new →
+    Did (state_of columns tokens old) role (state_of columns tokens new)
+did_kinds columns place tokens old new role e none d = record {
+  columns = refl;
+  tokens = sym (append_nil tokens) ∙ ap (λ ts. tokens ++ ts) (sym none);
+  count = d.count;
+  each = λ kind k l. let P : ℕ → Type 0 = λ p. get_or new kind k ≡ step kind p role (get_or old kind k) in subst P e (d.each kind k l);
+}
 
 sound_same : (registry : Registry) (state new : State) (role : Role) → IsSound registry state → Did state role new → token_in role ≡ [] → IsSound registry new
 sound_same registry state new role s d none =

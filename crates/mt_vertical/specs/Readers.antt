@@ -1,10 +1,12 @@
 -- What is kept while the lines of a vertical are read: the tokens so far, and for each kind the instances that have ended and the one that is open.
-use Rattle.std.specs.Prelude.{ℕ, ◌≡◌, ◌+◌, ◌<◌, ◌≤◌, ◌==◌, if◌then◌else◌, List, [], ◌∷◌, ◌++◌, length, slice_index_or, Option, None, Some}
+use Rattle.std.specs.Prelude.{ℕ, ◌≡◌, ◌+◌, ◌<◌, ◌≤◌, ◌==◌, if◌then◌else◌, List, [], ◌∷◌, ◌++◌, length, slice_index_or, Option, None, Some, IsUtf8}
 use Rattle.std.specs.List.{All, Any}
 use Rattle.mt_text_spec.specs.Registries.{Registry, base_count}
 use Rattle.mt_text_spec.specs.Texts.{Token, StructSpan, text_tokens_limit, value_bytes_limit}
 use Rattle.mt_file_spec.specs.VerticalLines.{Role, Opens, Stands, Closes, Gives, Plays, columns, first_columns}
 use Rattle.mt_file_spec.specs.Vertical.{TextCause, cause_rank, HasCause, token_in}
+use Rattle.mt_vertical.specs.TagForms.{IsFound}
+use Rattle.mt_vertical.specs.declared.tags.Form.{Form}
 
 -- an instance that has begun
 pub record Began : Type 0 where
@@ -20,6 +22,14 @@ pub record State : Type 0 where
   pub columns : ℕ
   pub tokens : List Token
   pub kinds : List Kept
+
+-- of a kind no instance has begun
+abbrev pub no_instances : Kept
+no_instances = record { done = []; open_one = None }
+
+-- the state with these tokens and these instances
+abbrev pub state_of : ℕ → List Token → List Kept → State
+state_of columns tokens kinds = record { columns = columns; tokens = tokens; kinds = kinds }
 
 -- the open instance of a kind, ended at a place
 abbrev pub closed_at : ℕ → ℕ → Option Began → List StructSpan
@@ -54,6 +64,11 @@ pub record Did (old : State) (role : Role) (new : State) : Type 0 where
   pub count : length new.kinds ≡ length old.kinds
   pub each : (kind : ℕ) (d : Kept) → kind < length old.kinds → slice_index_or new.kinds kind d ≡ step kind (length old.tokens) role (slice_index_or old.kinds kind d)
 
+-- what a line at this place does to the instances
+pub record DidKinds (place : ℕ) (old : List Kept) (role : Role) (new : List Kept) : Type 0 where
+  pub count : length new ≡ length old
+  pub each : (kind : ℕ) (d : Kept) → kind < length old → slice_index_or new kind d ≡ step kind place role (slice_index_or old kind d)
+
 -- what is always so under this registry
 pub record IsSound (registry : Registry) (state : State) : Type 0 where
   pub columns : state.columns ≡ base_count registry.attrs
@@ -77,6 +92,11 @@ pub record Refuses (registry : Registry) (state : State) (line : List ℕ) (caus
 abbrev pub IsRead : Registry → State → List ℕ → State → Option TextCause → Type 0
 IsRead registry old line new None = HasReadLine registry old line new
 IsRead registry old line new (Some cause) = Refuses registry old line cause
+
+-- a tag at this place was read, or has this cause first, whatever the tokens before it are
+abbrev pub TagIsRead : Registry → ℕ → List Kept → Form → List ℕ → List ℕ → List Kept → Option TextCause → Type 0
+TagIsRead registry place old form name region new found = (columns : ℕ) (tokens : List Token) (line : List ℕ) → place ≡ length tokens → IsSound registry (state_of columns tokens old) → IsUtf8 line →
+    IsFound line form name region → IsRead registry (state_of columns tokens old) line (state_of columns tokens new) found
 
 -- all of these are short enough
 abbrev pub AreShort : List (List ℕ) → Type 0

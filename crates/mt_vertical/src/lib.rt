@@ -10,19 +10,24 @@ ghost use Rattle.mt_file_spec.specs.Vertical.{Vertical, FirstTextFault};
 ghost use Rattle.mt_vertical.specs.Causes.{text_cause_of};
 
 mod attrs;
+mod borrowed;
 mod error;
 mod instances;
 mod laws;
 mod lines;
 mod reader;
+mod rows;
+mod structs;
 mod tags;
 mod values;
 
+pub use borrowed::{BorrowedText, read_borrowed};
 pub use error::{BadLine, TextCause, TextError};
 pub use laws::{no_text_with_fault, one_fault, one_role, one_text, valid_texts};
-pub use lines::{add_token_values, token_value};
+pub use lines::token_value;
 use mt_base::{Lines, Registry, Text, Value};
 use reader::Reader;
+pub use rows::Rows;
 use std::alloc::Global;
 
 /// The text of this name that the bytes are read as, or the first line that has a cause to refuse them.

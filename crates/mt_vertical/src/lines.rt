@@ -1,15 +1,13 @@
 //! What a line of a vertical is.
 
-ghost use Rattle.std.specs.Prelude.{◌≡◌, ℕ, ◌↔◌, ◌∷◌, ◌++◌, [], true, List, map, IsTrue, IfOk, IfSome, IfNone};
-ghost use Rattle.mt_file_spec.specs.VerticalLines.{Encloses, IsSkipped, columns, first_columns};
+ghost use Rattle.std.specs.Prelude.{◌≡◌, ℕ, ◌↔◌, ◌∷◌, ◌++◌, [], List, IsTrue, IfSome, IfNone};
+ghost use Rattle.mt_file_spec.specs.VerticalLines.{Encloses, IsSkipped};
 ghost use Rattle.mt_vertical.specs.Columns.{column_in};
 ghost use Rattle.mt_vertical.specs.Lines.{IsLine, IsToken};
-ghost use Rattle.mt_vertical.specs.Readers.{AreShort};
 
 use super::attrs::are_spaces;
 use super::tags::{Tag, read_tag};
-use super::values::{add_column_values, column_at};
-use mt_base::NoMemory;
+use super::values::column_at;
 
 /// A line, whatever is declared.
 #[derive(Clone, Copy, Debug, Drop)]
@@ -107,21 +105,4 @@ pub fn token_value(line: &str, column: usize) -> Option<&str>
     } else {
         None
     }
-}
-
-/// Adds the values that a line gives its token, where the line is a token and each of these values, so many, is short enough. Tells whether it is so; else some of
-/// them may have been added.
-pub fn add_token_values<'a>(
-    values: &mut Vec<&'a str>,
-    line: &'a str,
-    count: usize,
-) -> Result<bool, NoMemory>
-    ensures token { IfOk result (λ added. added ≡ true → IsToken line.now) }
-    ensures added { IfOk result (λ added. added ≡ true → map (λ value. value.now) values.new.items ≡ map (λ value. value.now) values.old.items ++ first_columns count (columns line.now)) }
-    ensures short { IfOk result (λ added. added ≡ true → AreShort (map (λ value. value.now) values.old.items) → AreShort (map (λ value. value.now) values.new.items)) }
-{
-    if !is_token(line) {
-        return Ok(false);
-    }
-    add_column_values(values, line, count)
 }

@@ -1,6 +1,6 @@
 //! The values that lines give to their text.
 
-ghost use Rattle.std.specs.Prelude.{◌≡◌, ℕ, ◌+◌, ◌∷◌, ◌++◌, true, false, List as Items, map, option_map, IfOk, IfSome, IfNone};
+ghost use Rattle.std.specs.Prelude.{◌≡◌, ℕ, ◌+◌, ◌∷◌, ◌++◌, true, false, List as Items, map, option_map, IfOk, IfSome, IfNone, OnErr};
 ghost use Rattle.mt_file_spec.specs.Tags.{TagAttr as SpelledAttr, tag_value};
 ghost use Rattle.mt_file_spec.specs.VerticalLines.{columns, first_columns};
 ghost use Rattle.mt_vertical.specs.Columns.{column_in};
@@ -52,20 +52,25 @@ pub fn column_values(count: usize, line: &str, row: &mut Strings) -> Result<bool
     Ok(true)
 }
 
-/// Adds the first columns of a line, so many. Tells whether each is short enough: else those before the first that is not were added.
+/// Adds the first columns of a line, so many, where each is short enough. Tells whether it is so: else, and without memory, none is added.
 pub fn add_column_values<'a>(
     values: &mut Vec<&'a str>,
     line: &'a str,
     count: usize,
 ) -> Result<bool, NoMemory>
     ensures added { IfOk result (λ short. short ≡ true → map (λ value. value.now) values.new.items ≡ map (λ value. value.now) values.old.items ++ first_columns count (columns line.now)) }
-    ensures short { IfOk result (λ short. short ≡ true → AreShort (map (λ value. value.now) values.old.items) → AreShort (map (λ value. value.now) values.new.items)) }
+    ensures short { IfOk result (λ short. short ≡ true → AreShort (first_columns count (columns line.now))) }
+    ensures long { IfOk result (λ short. short ≡ false → HasLong (first_columns count (columns line.now))) }
+    ensures none { IfOk result (λ short. short ≡ false → values.new.items ≡ values.old.items) }
+    ensures err { OnErr result (values.new.items ≡ values.old.items) }
 {
     values.reserve(count)?;
+    let before = values.len();
     let mut left = Some(line);
     for _ in 0..count {
         let (column, others) = next_column(left);
         if VALUE_BYTES_LIMIT < column.len() {
+            values.truncate(before);
             return Ok(false);
         }
         values.push_reserved(column);

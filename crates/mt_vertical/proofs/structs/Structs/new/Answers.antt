@@ -1,4 +1,4 @@
-use Rattle.mt_vertical.proofs.reader.Reader.new.Goals as goal
+use Rattle.mt_vertical.proofs.structs.Structs.new.Goals as goal
 use Rattle.mt_vertical.proofs.Filled.{copy_push}
 
 pub loop-preserved : goal.loop-preserved

@@ -1,4 +1,4 @@
-use Rattle.mt_vertical.proofs.reader.gather.Goals as goal
+use Rattle.mt_vertical.proofs.structs.gather.Goals as goal
 use Rattle.mt_vertical.proofs.Filled.{moved, counted, gathered_more}
 
 pub loop-instances-preserved : goal.loop-instances-preserved

@@ -1,7 +1,7 @@
 use Rattle.std.proofs.Common.{◌≡◌, ◌++◌, length}
 use Rattle.std.specs.Vec.Iter.{into_iter_items}
 use Rattle.mt_vertical.specs.Readers.{gathered}
-use Rattle.mt_vertical.proofs.reader.gather.Given as goal
+use Rattle.mt_vertical.proofs.structs.gather.Given as goal
 
 abbrev pub invariant-loop-instances : goal.invariant-loop-instances
 invariant-loop-instances l = record {
