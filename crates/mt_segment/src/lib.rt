@@ -23,7 +23,7 @@ pub use lists::Lists;
 pub use mapped::has_mappers;
 use mt_base::StructSpan;
 pub use segment::Segment;
-pub use sorting::{Sorter, tables_of_values};
+pub use sorting::Sorter;
 pub use table::{AttrTables, Column, MappedTable};
 
 fn shared<T: Send + Sync>() {}
