@@ -2,8 +2,7 @@ pub mod Beside
 pub mod Lists
 pub mod Narrow
 pub mod Packing
-pub mod Plain
-pub mod Rows
 pub mod Tables
+pub mod TokenColumns
 pub mod Values
 pub mod Wide

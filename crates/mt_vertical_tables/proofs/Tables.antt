@@ -1,8 +1,8 @@
 -- The tables of one text, put together of those of its columns.
-use Rattle.std.proofs.Common.{◌≡◌, ℕ, zero, suc, ◌<◌, Bool, true, false, cond, Option, None, is_none, is_some, get_or, List, [], ◌∷◌, ◌++◌, length, map, filter, take, refl, sym, ◌∙◌, ap, subst, arith, append-nil}
-use Rattle.std.specs.List.{All, flat_map}
+use Rattle.std.proofs.Common.{◌≡◌, ℕ, zero, suc, ◌<◌, Bool, true, cond, Option, None, is_none, get_or, List, [], ◌∷◌, length, map, filter, take, refl, sym, ◌∙◌, ap, ap₂, subst, arith, append-nil}
+use Rattle.std.specs.List.{All}
 use Rattle.std.proofs.lemmas.List.{length-map, get_or-map, length-take}
-use Rattle.std.proofs.lemmas.List.Elements.{All-from_get_or, All-head, All-tail, All-take}
+use Rattle.std.proofs.lemmas.List.Elements.{All-head, All-tail, All-take}
 use Rattle.std.proofs.lemmas.List.FromFn.{get_or-map-range_with_len, length-map-range_with_len}
 use Rattle.std.proofs.lemmas.List.Sums.{sum_by-cons}
 use Rattle.std.proofs.lemmas.Option.{none-some}
@@ -11,10 +11,10 @@ use Rattle.mt_text_spec.specs.Texts.{StructSpan, Text, Token, ValidCorpus, Valid
 use Rattle.mt_file_spec.specs.VerticalLines.{Role}
 use Rattle.mt_file_spec.specs.Vertical.{Vertical, text_lines, tokens_in}
 use Rattle.mt_segment_spec.specs.Tables.{AttrTables, AreBaseTables, AreTables, AreTablesOf, attr_at, attr_values, instances_of, is_of_kind, tables_at, value_by}
-use Rattle.mt_vertical_tables.specs.Columns.{AreColumns}
+use Rattle.mt_vertical_tables.specs.Columns.{AreColumns, AreTokenColumns}
 use Rattle.mt_segment.specs.Joined.{of_one_text}
 use Rattle.mt_vertical_tables.specs.Joined.{AreTablesOfVertical}
-use Rattle.mt_vertical_tables.specs.Outlines.{IsOutline}
+use Rattle.mt_vertical_tables.specs.Outlines.{IsOutline, kind_by_kind}
 use Rattle.mt_vertical_tables.proofs.Values.{by_line}
 use Rattle.mt_vertical_tables.proofs.Wide.{AreKnown, all_wide, instances_same, length_same, read_wide, values_wide}
 
@@ -44,6 +44,49 @@ valid_alone registry text h = record {
     only zero d l = h
     only (suc k) d l = absurd (omega (arith, l))
 
+-- ---- the tables of a text that was read
+
+module _ (registry : Registry) (name bytes : List ℕ) (text : Text) (tokens : ℕ) (structs : List (List StructSpan)) (attrs : List AttrTables) (bases : All (λ attr. attr.base ≡ None) registry.attrs) (read : Vertical registry name bytes text)
+    (many : tokens ≡ length text.tokens) (columns : AreTokenColumns text.tokens (length registry.attrs) attrs) (instances : structs ≡ kind_by_kind (length registry.kinds) text.structs) where
+  module _ (images : List ℕ → List ℕ → List ℕ) where
+    values_are : (number : ℕ) → number < length registry.attrs → (attr_at registry number).base ≡ None → map (λ token. value_of token number) text.tokens ≡ attr_values images registry (text ∷ []) number
+    values_are number l e =
+        let image = images (attr_at registry number).mapper in
+        ap (λ (c : ℕ). map (λ token. value_of token c) text.tokens) (sym (column_is registry.attrs number bases l))
+        ∙ ap (λ (base : Option ℕ). map (λ token. value_by image registry number token base) text.tokens) (sym e)
+        ∙ ap (λ (ts : List Token). map (λ token. value_by image registry number token (attr_at registry number).base) ts) (sym (append-nil text.tokens))
+
+    kind_is : (kind : ℕ) → kind < length registry.kinds → get_or (map (λ instances. instances ∷ []) structs) kind [] ≡ instances_of kind (text ∷ [])
+    kind_is kind l =
+        let of_kind : ℕ → List StructSpan = λ kind. filter (is_of_kind kind) text.structs in
+        let all : length structs ≡ length registry.kinds = ap length instances ∙ length-map-range_with_len of_kind 0 (length registry.kinds) in
+        get_or-map (λ (instances : List StructSpan). instances ∷ []) structs kind [] [] (omega (arith, l, all))
+        ∙ ap (λ (lists : List (List StructSpan)). get_or lists kind [] ∷ []) instances ∙ ap (λ (spans : List StructSpan). spans ∷ []) (get_or-map-range_with_len of_kind 0 (length registry.kinds) kind kind [] l (omega arith))
+
+    are_tables : AreTablesOf images registry (text ∷ []) (of_one_text name tokens attrs structs)
+    are_tables = record {
+      texts = ap₂ (λ (own : List ℕ) (n : ℕ). (own, n) ∷ []) (sym read.named) many;
+      attr_count = columns.count_is;
+      bases = λ number l e. subst (λ (vs : List (List ℕ)). AreBaseTables vs (tables_at attrs number)) (values_are number l e) (columns.each number l);
+      mapped = λ number base l e. absurd (none-some base (sym (bases number (base_attr []) l) ∙ e));
+      kind_count = length-map structs (λ (instances : List StructSpan). instances ∷ []) ∙ ap length instances ∙ length-map-range_with_len (λ (kind : ℕ). filter (is_of_kind kind) text.structs) 0 (length registry.kinds);
+      structs = kind_is;
+    }
+
+  pub tables_of_read : (valid : ValidRegistry registry) → ValidText registry text → AreTables (of_one_text name tokens attrs structs)
+  tables_of_read valid valid_text = record {
+    registry = registry;
+    under = record {
+      images = λ mapper value. value;
+      by = record { valid = valid; corpus = text ∷ []; texts = valid_alone registry text valid_text; some = omega arith; are = are_tables (λ mapper value. value) };
+    };
+  }
+
+  pub vertical_of_read : ValidText registry text → AreTablesOfVertical registry name bytes (of_one_text name tokens attrs structs)
+  vertical_of_read valid_text = (text, read, valid_text, are_tables)
+
+-- ---- the tables of lines that were read apart
+
 module _ (registry : Registry) (name bytes : List ℕ) (tokens : ℕ) (structs : List (List StructSpan)) (attrs : List AttrTables) (bases : All (λ attr. attr.base ≡ None) registry.attrs) (o : IsOutline registry name bytes tokens structs)
     (k : AreColumns (text_lines bytes) (length registry.attrs) attrs) where
   abbrev roles : List Role
@@ -64,43 +107,21 @@ module _ (registry : Registry) (name bytes : List ℕ) (tokens : ℕ) (structs :
     structs = o.read.structs ∙ sym (instances_same (base_count registry.attrs) (length registry.kinds) (text_lines bytes) o.read.roles);
   }
 
-  module _ (images : List ℕ → List ℕ → List ℕ) where
-    values_are : (number : ℕ) → number < length registry.attrs → (attr_at registry number).base ≡ None → map (λ token. value_of token number) (tokens_in roles) ≡ attr_values images registry (text_of ∷ []) number
-    values_are number l e =
-        let image = images (attr_at registry number).mapper in
-        ap (λ (c : ℕ). map (λ token. value_of token c) (tokens_in roles)) (sym (column_is registry.attrs number bases l))
-        ∙ ap (λ (base : Option ℕ). map (λ token. value_by image registry number token base) (tokens_in roles)) (sym e)
-        ∙ ap (λ (ts : List Token). map (λ token. value_by image registry number token (attr_at registry number).base) ts) (sym (append-nil (tokens_in roles)))
+  many : tokens ≡ length (tokens_in roles)
+  many = o.count ∙ ap length o.read.tokens ∙ sym (length_same (base_count registry.attrs) (text_lines bytes) o.read.roles)
 
-    kind_is : (kind : ℕ) → kind < length registry.kinds → get_or (map (λ instances. instances ∷ []) structs) kind [] ≡ instances_of kind (text_of ∷ [])
-    kind_is kind l =
-        let of_kind : ℕ → List StructSpan = λ kind. filter (is_of_kind kind) o.text.structs in
-        let many : length structs ≡ length registry.kinds = ap length o.instances ∙ length-map-range_with_len of_kind 0 (length registry.kinds) in
-        get_or-map (λ (instances : List StructSpan). instances ∷ []) structs kind [] [] (omega (arith, l, many))
-        ∙ ap (λ (lists : List (List StructSpan)). get_or lists kind [] ∷ []) o.instances ∙ ap (λ (spans : List StructSpan). spans ∷ []) (get_or-map-range_with_len of_kind 0 (length registry.kinds) kind kind [] l (omega arith))
-
-    are_tables : AreTablesOf images registry (text_of ∷ []) (of_one_text name tokens attrs structs)
-    are_tables = record {
-      texts = ap (λ (n : ℕ). (name, n) ∷ []) (o.count ∙ ap length o.read.tokens ∙ sym (length_same (base_count registry.attrs) (text_lines bytes) o.read.roles));
-      attr_count = k.count_is;
-      bases = λ number l e.
-          let c = k.each number l in
-          let is = values_wide registry number 0 (text_lines bytes) o.read.roles c.values (omega (arith, l, count_all registry.attrs bases)) o.read.read (by_line number (text_lines bytes) c.values c.are) in
-          subst (λ (vs : List (List ℕ)). AreBaseTables vs (tables_at attrs number)) (is ∙ values_are number l e) c.made;
-      mapped = λ number base l e. absurd (none-some base (sym (bases number (base_attr []) l) ∙ e));
-      kind_count = length-map structs (λ (instances : List StructSpan). instances ∷ []) ∙ ap length o.instances ∙ length-map-range_with_len (λ (kind : ℕ). filter (is_of_kind kind) o.text.structs) 0 (length registry.kinds);
-      structs = kind_is;
-    }
+  columns : AreTokenColumns (tokens_in roles) (length registry.attrs) attrs
+  columns = record {
+    count_is = k.count_is;
+    each = λ number l.
+        let c = k.each number l in
+        let is = values_wide registry number 0 (text_lines bytes) o.read.roles c.values (omega (arith, l, count_all registry.attrs bases)) o.read.read (by_line number (text_lines bytes) c.values c.are) in
+        subst (λ (vs : List (List ℕ)). AreBaseTables vs (tables_at attrs number)) is c.made;
+  }
 
   module _ (valid : ValidRegistry registry) (valid_text : (text : Text) → Vertical registry name bytes text → ValidText registry text) where
     pub are_some : AreTables (of_one_text name tokens attrs structs)
-    are_some = record {
-      registry = registry;
-      under = record {
-        images = λ mapper value. value;
-        by = record { valid = valid; corpus = text_of ∷ []; texts = valid_alone registry text_of (valid_text text_of is_read); some = omega arith; are = are_tables (λ mapper value. value) };
-      };
-    }
+    are_some = tables_of_read registry name bytes text_of tokens structs attrs bases is_read many columns o.instances valid (valid_text text_of is_read)
 
     pub are_of_vertical : AreTablesOfVertical registry name bytes (of_one_text name tokens attrs structs)
-    are_of_vertical = (text_of, is_read, valid_text text_of is_read, are_tables)
+    are_of_vertical = vertical_of_read registry name bytes text_of tokens structs attrs bases is_read many columns o.instances (valid_text text_of is_read)

@@ -1,7 +1,7 @@
 -- The columns of a vertical: the values of its tokens, column by column.
 use Rattle.std.specs.Prelude.{ℕ, ◌≡◌, ◌<◌, ◌≤◌, ◌⊎◌, Bool, List, [], ◌∷◌, ◌++◌, length, map, Decides}
 use Rattle.std.specs.List.{All, AllZip}
-use Rattle.mt_text_spec.specs.Texts.{value_bytes_limit}
+use Rattle.mt_text_spec.specs.Texts.{Token, value_bytes_limit, value_of}
 use Rattle.mt_vertical.specs.Columns.{column_in}
 use Rattle.mt_vertical.specs.Lines.{IsToken}
 use Rattle.mt_store_spec.specs.Lexicons.{kept_values}
@@ -34,3 +34,8 @@ pub record IsColumnOf (ls : List (List ℕ)) (column : ℕ) (tables : AttrTables
 pub record AreColumns (ls : List (List ℕ)) (count : ℕ) (all : List AttrTables) : Type 0 where
   pub count_is : length all ≡ count
   pub each : (column : ℕ) → column < count → IsColumnOf ls column (tables_at all column)
+
+-- the tables of the first columns of tokens, so many
+pub record AreTokenColumns (tokens : List Token) (count : ℕ) (all : List AttrTables) : Type 0 where
+  pub count_is : length all ≡ count
+  pub each : (column : ℕ) → column < count → AreBaseTables (map (λ token. value_of token column) tokens) (tables_at all column)

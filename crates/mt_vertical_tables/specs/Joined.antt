@@ -1,9 +1,9 @@
 -- The tables of the text that a vertical is.
-use Rattle.std.specs.Prelude.{ℕ, List, [], ◌∷◌, map}
+use Rattle.std.specs.Prelude.{ℕ, List, [], ◌∷◌}
 use Rattle.mt_text_spec.specs.Registries.{Registry}
-use Rattle.mt_text_spec.specs.Texts.{StructSpan, Text, ValidText}
+use Rattle.mt_text_spec.specs.Texts.{Text, ValidText}
 use Rattle.mt_file_spec.specs.Vertical.{Vertical}
-use Rattle.mt_segment_spec.specs.Tables.{AttrTables, Tables, AreTablesOf}
+use Rattle.mt_segment_spec.specs.Tables.{Tables, AreTablesOf}
 
 -- the tables of the text of this name that the bytes are read as
 abbrev pub AreTablesOfVertical : Registry → List ℕ → List ℕ → Tables → Type 0

@@ -2,4 +2,3 @@ pub mod Columns
 pub mod Joined
 pub mod Outlines
 pub mod Packing
-pub mod Rows

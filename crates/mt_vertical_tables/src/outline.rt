@@ -7,7 +7,7 @@ ghost use Rattle.mt_segment_spec.specs.Tables.{is_of_kind};
 ghost use Rattle.mt_vertical_tables.specs.Outlines.{IsOutline, kind_by_kind, narrow};
 
 use super::unmade::Unmade;
-use mt_base::{Attr, Kind, List, NoMemory, Registry, StructSpan, Text, Value};
+use mt_base::{Attr, Kind, List, NoMemory, Registry, StructSpan, Value};
 use mt_segment::Lists;
 use mt_vertical::read_text;
 use std::alloc::Global;
@@ -32,22 +32,15 @@ pub(crate) fn read_outline(
 {
     let narrow = narrowed(alloc, registry)?;
     let text = read_text(alloc, name.copy(alloc)?, bytes, &narrow)?;
-    let structs = instances(alloc, &text, registry.kinds().len() as u16)?;
+    let structs = instances(
+        alloc,
+        text.structs().as_slice(),
+        registry.kinds().len() as u16,
+    )?;
     Ok(Outline {
         tokens: text.len() as u32,
         structs,
     })
-}
-
-/// No instances of so many kinds.
-pub(crate) fn no_instances(alloc: Global, kinds: u16) -> Result<Lists<StructSpan>, NoMemory>
-    ensures { IfOk result (λ all. all ≡ kind_by_kind kinds []) }
-{
-    let mut all = Lists::with_capacity(alloc, kinds as usize, 0)?;
-    for _ in 0..kinds {
-        all.begin()?;
-    }
-    Ok(all)
 }
 
 /// The registry with the same kinds of structures and one base attribute alone.
@@ -72,28 +65,32 @@ fn copy_kinds(alloc: Global, kinds: &[Kind]) -> Result<List<Kind>, NoMemory>
     Ok(copies)
 }
 
-/// The instances of the first kinds of structures in a text, so many, kind by kind, with copies of their values.
-fn instances(alloc: Global, text: &Text, kinds: u16) -> Result<Lists<StructSpan>, NoMemory>
-    ensures { IfOk result (λ all. all ≡ kind_by_kind kinds text.now.structs) }
+/// Those of instances that are of the first kinds, so many, kind by kind, with copies of their values.
+pub(crate) fn instances(
+    alloc: Global,
+    structs: &[StructSpan],
+    kinds: u16,
+) -> Result<Lists<StructSpan>, NoMemory>
+    ensures { IfOk result (λ all. all ≡ kind_by_kind kinds structs.now) }
 {
-    let mut all = Lists::with_capacity(alloc, kinds as usize, text.structs().len())?;
+    let mut all = Lists::with_capacity(alloc, kinds as usize, structs.len())?;
     for kind in 0..kinds {
-        add_kind(alloc, &mut all, text, kind)?;
+        add_kind(alloc, &mut all, structs, kind)?;
     }
     Ok(all)
 }
 
-/// Adds the instances of a kind in a text.
+/// Adds those of instances that are of a kind.
 fn add_kind(
     alloc: Global,
     all: &mut Lists<StructSpan>,
-    text: &Text,
+    structs: &[StructSpan],
     kind: u16,
 ) -> Result<(), NoMemory>
-    ensures { OnOk result (all.new ≡ all.old ++ filter (is_of_kind kind) text.now.structs ∷ []) }
+    ensures { OnOk result (all.new ≡ all.old ++ filter (is_of_kind kind) structs.now ∷ []) }
 {
     all.begin()?;
-    for span in text.structs().as_slice() {
+    for span in structs {
         if span.kind() == kind {
             all.push(span.copy(alloc)?)?;
         }

@@ -14,12 +14,12 @@ ghost use Rattle.mt_vertical_tables.specs.Joined.{AreTablesOfVertical};
 ghost use Rattle.mt_vertical_tables.specs.Outlines.{IsOutline};
 
 use super::columns::{text_of, vertical_columns};
-use super::few::{read_rows, row_columns};
-use super::outline::{Outline, no_instances, read_outline};
+use super::few::row_columns;
+use super::outline::{Outline, instances, read_outline};
 use super::unmade::Unmade;
 use mt_base::{Attr, NoMemory, Registry, Value};
 use mt_segment::{AttrTables, Segment};
-use mt_vertical::valid_texts;
+use mt_vertical::{read_borrowed, valid_texts};
 use rayon::{current_num_threads, join};
 use std::alloc::Global;
 use std::thread::Threads;
@@ -33,9 +33,9 @@ const MANY: usize = 1 << 18;
 /// With fewer threads the lines are gone over by one thread sooner than once for each column.
 const FEWEST_THREADS: usize = 3;
 
-/// The segment of the text of this name that the bytes are read as, made without the text: that of a large one by several threads, that of a small one whose lines
-/// are all tokens by one. None where that is not the way for these bytes: they are neither many nor few, the machine has few threads for many, an attribute is
-/// mapped, or a line is no token of few or has a cause to refuse the text. Nothing more is said of the bytes then, and the reader of texts decides.
+/// The segment of the text of this name that the bytes are read as, made without the text: that of a large one by several threads, that of a small one by one. None
+/// where that is not the way for these bytes: they are neither many nor few, the machine has few threads for many, an attribute is mapped, or a line has a cause to
+/// refuse the text. Nothing more is said of the bytes then, and the reader of texts decides.
 pub fn read_tables<R: Threads + Sync>(
     rt: &R,
     alloc: Global,
@@ -139,7 +139,7 @@ fn read_parts<R: Threads + Sync>(
     Ok((outline, columns))
 }
 
-/// The segment of the text of this name that the bytes are read as, where they are few lines and each is a token.
+/// The segment of the text of this name that the bytes are read as, where they are few.
 fn read_few(
     alloc: Global,
     registry: &Registry,
@@ -152,13 +152,14 @@ fn read_few(
     ensures { IfOk result (λ segment. AreTablesOfVertical registry.now name.now bytes.now segment) }
 {
     valid_texts();
-    let text = text_of(bytes)?;
-    let count = registry.attrs().len();
-    let rows = read_rows(alloc, text, count)?;
-    let columns = row_columns(alloc, &rows, count)?;
+    let lines = text_of(bytes)?;
+    let text = read_borrowed(alloc, lines, registry)?;
+    let columns = row_columns(alloc, &text.rows, registry.attrs().len())?;
+    let kinds = registry.kinds().len() as u16;
+    let structs = instances(alloc, text.structs.as_slice(), kinds)?;
     let outline = Outline {
-        tokens: rows.tokens as u32,
-        structs: no_instances(alloc, registry.kinds().len() as u16)?,
+        tokens: text.rows.len() as u32,
+        structs,
     };
     let segment = of_columns(alloc, name, outline, columns)?;
     Ok(segment)

@@ -5,4 +5,4 @@ use Rattle.mt_segment_spec.specs.Tables.{is_of_kind}
 use Rattle.mt_vertical_tables.proofs.outline.add_kind.Given as goal
 
 abbrev pub invariant-loop-span : goal.invariant-loop-span
-invariant-loop-span l = l.all ≡ l.fn.all ++ filter (is_of_kind l.kind) (take l.span-index l.text.structs) ∷ []
+invariant-loop-span l = l.all ≡ l.fn.all ++ filter (is_of_kind l.kind) (take l.span-index l.structs) ∷ []

@@ -4,4 +4,4 @@ use Rattle.mt_vertical_tables.specs.Outlines.{kind_by_kind}
 use Rattle.mt_vertical_tables.proofs.outline.instances.Given as goal
 
 abbrev pub invariant-loop-kind : goal.invariant-loop-kind
-invariant-loop-kind l = l.all ≡ kind_by_kind l.kind l.text.structs
+invariant-loop-kind l = l.all ≡ kind_by_kind l.kind l.structs
