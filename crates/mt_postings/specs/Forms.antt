@@ -2,8 +2,6 @@
 use Rattle.std.specs.Prelude.{ℕ, ◌<◌, ◌≤◌, List, [], length}
 use Rattle.mt_postings.specs.declared.cursor.Left.{Left}
 use Rattle.mt_postings.specs.declared.cursor.Left.TheVariants as left
-use Rattle.mt_postings.specs.declared.kept.Few.{Few}
-use Rattle.mt_postings.specs.declared.kept.Few.TheVariants as in_place
 use Rattle.mt_postings.specs.declared.kept.Kept.{Kept}
 use Rattle.mt_postings.specs.declared.kept.Kept.TheVariants as kept
 use Rattle.mt_postings.specs.declared.kept.Lent.{Lent}
@@ -14,22 +12,27 @@ abbrev pub positions_left : Left → List ℕ
 positions_left (left.Numbers numbers) = numbers
 positions_left (left.Codes places) = places
 
--- the positions that are kept in place
-abbrev pub positions_in_place : Few → List ℕ
-positions_in_place in_place.Zero = []
-positions_in_place (in_place.One positions) = positions
-positions_in_place (in_place.Two positions) = positions
-positions_in_place (in_place.Three positions) = positions
-
--- the positions that are kept: a few in place, as numbers, or as their code
+-- the positions that are kept: up to three in place, up to six in a block, as numbers, or as their code
 abbrev pub positions_kept : Kept → List ℕ
-positions_kept (kept.Few few) = positions_in_place few
+positions_kept kept.Zero = []
+positions_kept (kept.One positions) = positions
+positions_kept (kept.Two positions) = positions
+positions_kept (kept.Three positions) = positions
+positions_kept (kept.Four positions) = positions.value
+positions_kept (kept.Five positions) = positions.value
+positions_kept (kept.Six positions) = positions.value
 positions_kept (kept.Numbers numbers) = numbers.value.items
 positions_kept (kept.Code coded) = coded.value
 
--- the form goes by how many there are: up to three in place, up to 128 as numbers, and more as their code
+-- the form goes by how many there are: up to 128 in place, in a block or as numbers, and more as their code
 abbrev pub IsFitting : Kept → Type 0
-IsFitting (kept.Few few) = length (positions_in_place few) ≤ 3
+IsFitting kept.Zero = Unit {0}
+IsFitting (kept.One positions) = length positions ≤ 128
+IsFitting (kept.Two positions) = length positions ≤ 128
+IsFitting (kept.Three positions) = length positions ≤ 128
+IsFitting (kept.Four positions) = length positions.value ≤ 128
+IsFitting (kept.Five positions) = length positions.value ≤ 128
+IsFitting (kept.Six positions) = length positions.value ≤ 128
 IsFitting (kept.Numbers numbers) = length numbers.value.items ≤ 128
 IsFitting (kept.Code coded) = 128 < length coded.value
 

@@ -40,6 +40,7 @@ impl Model for Postings {
 
 impl Postings {
     /// The list of these positions.
+    #[inline(always)]
     pub fn from_slice(alloc: Global, positions: &[u32]) -> Result<Self, NoMemory>
         requires { ArePositions positions.now }
         ensures { IfOk result (λ p. p ≡ positions.now) }
@@ -56,11 +57,7 @@ impl Postings {
         ensures valid { ArePositions self.now }
         ensures short { IsShort result }
     {
-        match &self.kept {
-            Kept::Few(few) => Lent::Numbers(few.as_slice()),
-            Kept::Numbers(numbers) => Lent::Numbers(numbers.as_slice()),
-            Kept::Code(coded) => Lent::Code(&**coded),
-        }
+        self.kept.lent()
     }
 
     /// The positions as numbers.

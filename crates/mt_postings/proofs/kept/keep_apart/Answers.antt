@@ -1,11 +1,5 @@
 use Rattle.std.proofs.Common.{◌<◌, ◌≤◌, length, sym, ap, ◌∙◌, subst}
-use Rattle.mt_postings.proofs.kept.keep.Goals as goal
-
-pub returns-then-positions-le-FEW-clause-all : goal.returns-then-positions-le-FEW-clause-all
-returns-then-positions-le-FEW-clause-all c = c.from_slice.ensures
-
-pub returns-then-positions-le-FEW-clause-fitting : goal.returns-then-positions-le-FEW-clause-fitting
-returns-then-positions-le-FEW-clause-fitting c = subst (λ x. length x ≤ 3) (sym c.from_slice.ensures) c.if-positions-le-FEW.true
+use Rattle.mt_postings.proofs.kept.keep_apart.Goals as goal
 
 pub returns-then-positions-le-SHORT-clause-all : goal.returns-then-positions-le-SHORT-clause-all
 returns-then-positions-le-SHORT-clause-all c = ap (λ v. v.items) c.in_ok-new.ensures.ok ∙ c.in_ok-from_slice.ensures.items
