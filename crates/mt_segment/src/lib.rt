@@ -18,7 +18,7 @@ mod sorting;
 mod structs;
 mod table;
 
-pub use inverting::postings_of;
+pub use inverting::{postings_beside, postings_of};
 pub use lists::Lists;
 pub use mapped::has_mappers;
 use mt_base::StructSpan;
