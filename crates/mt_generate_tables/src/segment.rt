@@ -15,7 +15,7 @@ use super::numbering::{number_values, renumber};
 use mt_base::{List, NoMemory, Registry, StructSpan, Value};
 use mt_lexicon::Lexicon;
 use mt_postings::Postings;
-use mt_segment::{Column, Lists, Segment, postings_of};
+use mt_segment::{Column, Lists, Segment, postings_beside};
 use rayon::{current_num_threads, join};
 use std::alloc::Global;
 use std::marker::Model;
@@ -145,15 +145,15 @@ fn all_tables<R: Threads + Sync>(
     ensures lemma { IfOk result (λ all. (tokens : Items Token) → AreNumbered (tokens_in draws.now.seen.items) tokens draws.now.numbers.items → AreBaseTables (values_of 2 tokens) all.2) }
 {
     if draws.numbers.len() < MANY || current_num_threads(rt) < 2 {
-        let word = tables(alloc, draws, 0, word)?;
-        let tag = tables(alloc, draws, 1, Vec::new(alloc))?;
-        let lemma = tables(alloc, draws, 2, lemma)?;
+        let word = tables(rt, alloc, draws, 0, word)?;
+        let tag = tables(rt, alloc, draws, 1, Vec::new(alloc))?;
+        let lemma = tables(rt, alloc, draws, 2, lemma)?;
         return Ok((word, tag, lemma));
     }
     let first = move || -> Result<ColumnTables, NoMemory>
-        requires { ((tokens : Items Token) × AreNumbered (tokens_in draws.now.seen.items) tokens draws.now.numbers.items) × (length draws.now.numbers.items ≤ text_tokens_limit) }
+        requires { IsSync R.row × ((tokens : Items Token) × AreNumbered (tokens_in draws.now.seen.items) tokens draws.now.numbers.items) × (length draws.now.numbers.items ≤ text_tokens_limit) }
         ensures { IfOk result (λ tables. (tokens : Items Token) → AreNumbered (tokens_in draws.entry.now.seen.items) tokens draws.entry.now.numbers.items → AreBaseTables (values_of 0 tokens) tables) }
-    { tables(alloc, draws, 0, word) };
+    { tables(rt, alloc, draws, 0, word) };
     let others = move || -> Result<(ColumnTables, ColumnTables), NoMemory>
         requires { IsSync R.row × ((tokens : Items Token) × AreNumbered (tokens_in draws.now.seen.items) tokens draws.now.numbers.items) × (length draws.now.numbers.items ≤ text_tokens_limit) }
         ensures tag { IfOk result (λ pair. (tokens : Items Token) → AreNumbered (tokens_in draws.entry.now.seen.items) tokens draws.entry.now.numbers.items → AreBaseTables (values_of 1 tokens) pair.0) }
@@ -177,19 +177,20 @@ fn last_tables<R: Threads + Sync>(
     ensures lemma { IfOk result (λ pair. (tokens : Items Token) → AreNumbered (tokens_in draws.now.seen.items) tokens draws.now.numbers.items → AreBaseTables (values_of 2 tokens) pair.1) }
 {
     let tag = move || -> Result<ColumnTables, NoMemory>
-        requires { ((tokens : Items Token) × AreNumbered (tokens_in draws.now.seen.items) tokens draws.now.numbers.items) × (length draws.now.numbers.items ≤ text_tokens_limit) }
+        requires { IsSync R.row × ((tokens : Items Token) × AreNumbered (tokens_in draws.now.seen.items) tokens draws.now.numbers.items) × (length draws.now.numbers.items ≤ text_tokens_limit) }
         ensures { IfOk result (λ tables. (tokens : Items Token) → AreNumbered (tokens_in draws.entry.now.seen.items) tokens draws.entry.now.numbers.items → AreBaseTables (values_of 1 tokens) tables) }
-    { tables(alloc, draws, 1, Vec::new(alloc)) };
+    { tables(rt, alloc, draws, 1, Vec::new(alloc)) };
     let lemma = move || -> Result<ColumnTables, NoMemory>
-        requires { ((tokens : Items Token) × AreNumbered (tokens_in draws.now.seen.items) tokens draws.now.numbers.items) × (length draws.now.numbers.items ≤ text_tokens_limit) }
+        requires { IsSync R.row × ((tokens : Items Token) × AreNumbered (tokens_in draws.now.seen.items) tokens draws.now.numbers.items) × (length draws.now.numbers.items ≤ text_tokens_limit) }
         ensures { IfOk result (λ tables. (tokens : Items Token) → AreNumbered (tokens_in draws.entry.now.seen.items) tokens draws.entry.now.numbers.items → AreBaseTables (values_of 2 tokens) tables) }
-    { tables(alloc, draws, 2, lemma) };
+    { tables(rt, alloc, draws, 2, lemma) };
     let (tag, lemma) = join(rt, tag, lemma);
     Ok((tag?, lemma?))
 }
 
 /// The tables of a column of the tokens that were drawn. Its numbers go into this list, which is written over.
-fn tables(
+fn tables<R: Threads + Sync>(
+    rt: &R,
     alloc: Global,
     draws: &Draws,
     column: usize,
@@ -202,7 +203,7 @@ fn tables(
 {
     let (lexicon, table) = number_values(alloc, draws.seen.as_slice(), column)?;
     let numbers = renumber(room, draws.numbers.as_slice(), table.as_slice())?;
-    let postings = postings_of(alloc, numbers.as_slice(), lexicon.len() as usize)?;
+    let postings = postings_beside(rt, alloc, numbers.as_slice(), lexicon.len() as usize)?;
     Ok(ColumnTables {
         lexicon,
         column: Column::new(List::from_vec(numbers)),

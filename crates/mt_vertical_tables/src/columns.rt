@@ -3,6 +3,7 @@
 ghost use Rattle.std.specs.Prelude.{◌≡◌, ◌≤◌, [], ◌∷◌, ◌++◌, length, IfOk, OnOk};
 ghost use Rattle.mt_text_spec.specs.Texts.{text_tokens_limit, value_bytes_limit};
 ghost use Rattle.std.specs.Str.Lines.{lines};
+ghost use Rattle.std.specs.Thread.{IsSync};
 ghost use Rattle.mt_file_spec.specs.Vertical as vertical;
 ghost use Rattle.mt_vertical_tables.specs.Columns.{AddsLine, AreColumns, AreValuesIn, IsColumnOf};
 
@@ -10,7 +11,7 @@ use super::numbering::Numbering;
 use super::unmade::Unmade;
 use mt_base::List;
 use mt_base::limits::{TEXT_TOKENS_LIMIT, VALUE_BYTES_LIMIT};
-use mt_segment::{AttrTables, Column, postings_of};
+use mt_segment::{AttrTables, Column, postings_beside};
 use mt_vertical::{token_value, without_mark};
 use rayon::prelude::*;
 use std::alloc::Global;
@@ -41,7 +42,7 @@ pub(crate) fn vertical_columns<R: Threads + Sync>(
     Ok(tables)
 }
 
-/// The tables of the first columns of a text's lines, so many, each made by a thread of its own as far as the machine has them.
+/// The tables of the first columns of a text's lines, so many, each made by threads of its own as far as the machine has them.
 fn all_columns<R: Threads + Sync>(
     rt: &R,
     alloc: Global,
@@ -55,20 +56,26 @@ fn all_columns<R: Threads + Sync>(
         .with_min_len(1)
         .map(
             |column: usize| -> Result<AttrTables, Unmade>
+                requires { IsSync R.row }
                 ensures { IfOk result (λ tables. IsColumnOf (lines text.entry.now) column tables) }
-            { column_tables(alloc, text, column) },
+            { column_tables(rt, alloc, text, column) },
         )
         .collect(rt, alloc)?;
     made
 }
 
 /// The tables of a column of a text's lines.
-fn column_tables(alloc: Global, text: &str, column: usize) -> Result<AttrTables, Unmade>
+fn column_tables<R: Threads + Sync>(
+    rt: &R,
+    alloc: Global,
+    text: &str,
+    column: usize,
+) -> Result<AttrTables, Unmade>
     ensures { IfOk result (λ tables. IsColumnOf (lines text.now) column tables) }
 {
     let numbering = number_lines(alloc, text, column)?;
     let (lexicon, numbers) = numbering.finish()?;
-    let postings = postings_of(alloc, numbers.as_slice(), lexicon.len() as usize)?;
+    let postings = postings_beside(rt, alloc, numbers.as_slice(), lexicon.len() as usize)?;
     let column = Column::new(List::from_vec(numbers));
     Ok(AttrTables::of_base(lexicon, column, postings))
 }

@@ -7,8 +7,8 @@ use Rattle.mt_generate_tables.specs.Numbered.{tokens_in, values_of}
 use Rattle.mt_generate_tables.proofs.Numbers.{column_lexicon, column_numbers}
 use Rattle.mt_generate_tables.proofs.segment.tables.Goals as goal
 
-pub postings_of-requires-clause-numbers : goal.postings_of-requires-clause-numbers
-postings_of-requires-clause-numbers c =
+pub postings_beside-requires-clause-numbers : goal.postings_beside-requires-clause-numbers
+postings_beside-requires-clause-numbers g c κs within =
     let (tokens, h) = c.requires.numbered in
     let table = c.in_ok-lexicon.table.items in
     let drawn = c.args.draws.now.numbers.items in
@@ -18,7 +18,7 @@ postings_of-requires-clause-numbers c =
     numbers_low _ c.as_slice-4.result.now _ c.in_ok-lexicon.lexicon c.len.result numbers read c.len.ensures.number
 
 pub returns : goal.returns
-returns c = λ tokens h.
+returns g c = λ tokens h.
     let table = c.in_ok-lexicon.table.items in
     let seen = tokens_in c.args.draws.now.seen.items in
     let drawn = c.args.draws.now.numbers.items in

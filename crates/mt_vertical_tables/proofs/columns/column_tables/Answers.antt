@@ -4,15 +4,15 @@ use Rattle.mt_segment.specs.Parts.{AreInverted}
 use Rattle.mt_segment.proofs.Valued.{numbers_low, base_made}
 use Rattle.mt_vertical_tables.proofs.columns.column_tables.Goals as goal
 
-pub postings_of-requires-clause-short : goal.postings_of-requires-clause-short
-postings_of-requires-clause-short c = omega (arith, ap length c.as_slice.ensures.value, c.in_ok-lexicon.ensures.numbers.count, c.in_ok-numbering.ensures.few)
+pub postings_beside-requires-clause-short : goal.postings_beside-requires-clause-short
+postings_beside-requires-clause-short g c κs within = omega (arith, ap length c.as_slice.ensures.value, c.in_ok-lexicon.ensures.numbers.count, c.in_ok-numbering.ensures.few)
 
-pub postings_of-requires-clause-numbers : goal.postings_of-requires-clause-numbers
-postings_of-requires-clause-numbers c =
+pub postings_beside-requires-clause-numbers : goal.postings_beside-requires-clause-numbers
+postings_beside-requires-clause-numbers g c κs within =
     numbers_low c.in_ok-lexicon.numbers.items c.as_slice.result.now c.in_ok-numbering.numbering c.in_ok-lexicon.lexicon c.len.result c.in_ok-lexicon.ensures.numbers c.as_slice.ensures.value c.len.ensures.number
 
 pub returns : goal.returns
-returns c =
+returns g c =
     let lexicon = c.in_ok-lexicon.lexicon in
     let values = c.in_ok-numbering.numbering in
     let column : c.new-column.result ≡ c.in_ok-lexicon.numbers.items = c.new-column.ensures ∙ c.from_vec.ensures in
