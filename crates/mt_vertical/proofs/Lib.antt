@@ -7,9 +7,11 @@ pub mod KeptValues
 pub mod LineKinds
 pub mod LineRoles
 pub mod LinesRead
+pub mod LongColumns
 pub mod OneColumn
 pub mod OneRole
 pub mod OneText
+pub mod Outlines
 pub mod Runs
 pub mod SoFar
 pub mod Steps

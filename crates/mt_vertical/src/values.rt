@@ -79,6 +79,22 @@ pub fn add_column_values<'a>(
     Ok(true)
 }
 
+/// Whether one of the first columns of a line, so many, is longer than a value may be.
+pub fn has_long_column(line: &str, count: usize) -> bool
+    ensures long { result ≡ true → HasLong (first_columns count (columns line.now)) }
+    ensures short { result ≡ false → AreShort (first_columns count (columns line.now)) }
+{
+    let mut left = Some(line);
+    for _ in 0..count {
+        let (column, others) = next_column(left);
+        if VALUE_BYTES_LIMIT < column.len() {
+            return true;
+        }
+        left = others;
+    }
+    false
+}
+
 /// The column of a line with this number, counted from 0, or the value of one that is not there.
 pub fn column_at(line: &str, column: usize) -> &str
     ensures { result.now ≡ column_in column line.now }
