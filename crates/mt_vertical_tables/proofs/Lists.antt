@@ -1,9 +1,9 @@
 -- Lists that grow at their end.
-use Rattle.std.proofs.Common.{◌≡◌, ℕ, ◌+◌, ◌<◌, ◌≤◌, Bool, true, List, [], ◌∷◌, ◌++◌, length, map, take, get_or, refl, sym, ◌∙◌, ap, ap₂, subst, arith, append_assoc, append-nil, Option, None, Some, is_none}
-use Rattle.std.specs.List.{All, AllZip}
+use Rattle.std.proofs.Common.{◌≡◌, ℕ, ◌+◌, ◌<◌, ◌≤◌, Bool, true, List, [], ◌∷◌, ◌++◌, length, map, take, get_or, refl, sym, ◌∙◌, ap, subst, arith, append_assoc, append-nil, Option, None, Some, is_none}
+use Rattle.std.specs.List.{All}
 use Rattle.std.proofs.lemmas.List.{take_more, take_all}
 use Rattle.std.proofs.lemmas.List.Elements.{All-push}
-use Rattle.mt_text_spec.specs.Registries.{Attr, Kind, is_base}
+use Rattle.mt_text_spec.specs.Registries.{Attr, is_base}
 
 -- ---- parts of what is left
 
@@ -28,18 +28,3 @@ bases_more attrs i attr b l is e t h =
 
 pub bases_all : (attrs : List Attr) (i : ℕ) → length attrs ≤ i → All (λ attr. attr.base ≡ None) (take i attrs) → All (λ attr. attr.base ≡ None) attrs
 bases_all attrs i l h = subst (λ (xs : List Attr). All (λ attr. attr.base ≡ None) xs) (take_all i attrs l) h
-
--- ---- kinds
-
-copies_same : (values copies : List (List ℕ)) → AllZip (λ value copy. copy ≡ value) values copies → copies ≡ values
-copies_same [] [] h = refl
-copies_same [] (c ∷ cs) h = absurd h
-copies_same (v ∷ vs) [] h = absurd h
-copies_same (v ∷ vs) (c ∷ cs) h = ap₂ (λ (x : List ℕ) (xs : List (List ℕ)). x ∷ xs) h.0 (copies_same vs cs h.1)
-
-pub kind_more : (kinds copies new : List Kind) (i : ℕ) (kind made : Kind) (name : List ℕ) (attrs seen : List (List ℕ)) → i < length kinds → kind ≡ get_or kinds i kind → copies ≡ take i kinds → new ≡ copies ++ made ∷ [] →
-    made ≡ record { name = name; attrs = attrs } → name ≡ kind.name → seen ≡ kind.attrs → AllZip (λ value copy. copy ≡ value) seen attrs → new ≡ take (i + 1) kinds
-kind_more kinds copies new i kind made name attrs seen l is e more m n s clones =
-    let kind_of : List ℕ → List (List ℕ) → Kind = λ name attrs. record { name = name; attrs = attrs } in
-    let same : made ≡ kind = m ∙ ap₂ kind_of n (copies_same seen attrs clones ∙ s) in
-    more ∙ ap₂ (λ (xs : List Kind) (x : Kind). xs ++ x ∷ []) e (same ∙ is) ∙ sym (take_more kinds i kind l)

@@ -8,15 +8,14 @@ use Rattle.std.proofs.lemmas.List.Sums.{sum_by-cons}
 use Rattle.std.proofs.lemmas.Option.{none-some}
 use Rattle.mt_text_spec.specs.Registries.{Attr, Registry, ValidRegistry, base_attr, base_count, column_of, is_base}
 use Rattle.mt_text_spec.specs.Texts.{StructSpan, Text, Token, ValidCorpus, ValidText, value_of}
-use Rattle.mt_file_spec.specs.VerticalLines.{Role}
-use Rattle.mt_file_spec.specs.Vertical.{Vertical, text_lines, tokens_in}
+use Rattle.mt_file_spec.specs.Vertical.{AreRead, Vertical, text_lines}
 use Rattle.mt_segment_spec.specs.Tables.{AttrTables, AreBaseTables, AreTables, AreTablesOf, attr_at, attr_values, instances_of, is_of_kind, tables_at, value_by}
 use Rattle.mt_vertical_tables.specs.Columns.{AreColumns, AreTokenColumns}
 use Rattle.mt_segment.specs.Joined.{of_one_text}
 use Rattle.mt_vertical_tables.specs.Joined.{AreTablesOfVertical}
 use Rattle.mt_vertical_tables.specs.Outlines.{IsOutline, kind_by_kind}
+use Rattle.mt_vertical_tables.proofs.RoleColumns.{role_values}
 use Rattle.mt_vertical_tables.proofs.Values.{by_line}
-use Rattle.mt_vertical_tables.proofs.Wide.{AreKnown, all_wide, instances_same, length_same, read_wide, values_wide}
 
 -- ---- base attributes
 
@@ -85,43 +84,26 @@ module _ (registry : Registry) (name bytes : List ℕ) (text : Text) (tokens : �
   pub vertical_of_read : ValidText registry text → AreTablesOfVertical registry name bytes (of_one_text name tokens attrs structs)
   vertical_of_read valid_text = (text, read, valid_text, are_tables)
 
--- ---- the tables of lines that were read apart
+-- ---- the tables of a text whose columns were read apart
 
-module _ (registry : Registry) (name bytes : List ℕ) (tokens : ℕ) (structs : List (List StructSpan)) (attrs : List AttrTables) (bases : All (λ attr. attr.base ≡ None) registry.attrs) (o : IsOutline registry name bytes tokens structs)
-    (k : AreColumns (text_lines bytes) (length registry.attrs) attrs) where
-  abbrev roles : List Role
-  roles = all_wide (base_count registry.attrs) (text_lines bytes) o.read.roles
+module _ (registry : Registry) (name bytes : List ℕ) (ls : List (List ℕ)) (tokens : ℕ) (structs : List (List StructSpan)) (attrs : List AttrTables) (bases : All (λ attr. attr.base ≡ None) registry.attrs) (same : text_lines bytes ≡ ls)
+    (o : IsOutline registry name bytes tokens structs) (k : AreColumns ls (length registry.attrs) attrs) where
+  read_lines : AreRead registry 0 ls o.read.roles
+  read_lines = subst (λ (ls : List (List ℕ)). AreRead registry 0 ls o.read.roles) same o.read.read
 
-  abbrev text_of : Text
-  text_of = record { name = name; tokens = tokens_in roles; structs = o.text.structs }
-
-  known : AreKnown registry (text_lines bytes)
-  known column l = let c = k.each column (omega (arith, l, count_all registry.attrs bases)) in (c.values, by_line column (text_lines bytes) c.values c.are)
-
-  is_read : Vertical registry name bytes text_of
-  is_read = record {
-    roles = roles;
-    read = read_wide registry 0 (text_lines bytes) o.read.roles known o.read.read;
-    named = refl;
-    tokens = refl;
-    structs = o.read.structs ∙ sym (instances_same (base_count registry.attrs) (length registry.kinds) (text_lines bytes) o.read.roles);
-  }
-
-  many : tokens ≡ length (tokens_in roles)
-  many = o.count ∙ ap length o.read.tokens ∙ sym (length_same (base_count registry.attrs) (text_lines bytes) o.read.roles)
-
-  columns : AreTokenColumns (tokens_in roles) (length registry.attrs) attrs
+  columns : AreTokenColumns o.text.tokens (length registry.attrs) attrs
   columns = record {
     count_is = k.count_is;
     each = λ number l.
         let c = k.each number l in
-        let is = values_wide registry number 0 (text_lines bytes) o.read.roles c.values (omega (arith, l, count_all registry.attrs bases)) o.read.read (by_line number (text_lines bytes) c.values c.are) in
-        subst (λ (vs : List (List ℕ)). AreBaseTables vs (tables_at attrs number)) is c.made;
+        let is = role_values registry number 0 ls o.read.roles c.values (omega (arith, l, count_all registry.attrs bases)) read_lines (by_line number ls c.values c.are) in
+        let told : c.values ≡ map (λ token. value_of token number) o.text.tokens = is ∙ ap (λ (ts : List Token). map (λ token. value_of token number) ts) (sym o.read.tokens) in
+        subst (λ (vs : List (List ℕ)). AreBaseTables vs (tables_at attrs number)) told c.made;
   }
 
   module _ (valid : ValidRegistry registry) (valid_text : (text : Text) → Vertical registry name bytes text → ValidText registry text) where
     pub are_some : AreTables (of_one_text name tokens attrs structs)
-    are_some = tables_of_read registry name bytes text_of tokens structs attrs bases is_read many columns o.instances valid (valid_text text_of is_read)
+    are_some = tables_of_read registry name bytes o.text tokens structs attrs bases o.read o.count columns o.instances valid (valid_text o.text o.read)
 
     pub are_of_vertical : AreTablesOfVertical registry name bytes (of_one_text name tokens attrs structs)
-    are_of_vertical = vertical_of_read registry name bytes text_of tokens structs attrs bases is_read many columns o.instances (valid_text text_of is_read)
+    are_of_vertical = vertical_of_read registry name bytes o.text tokens structs attrs bases o.read o.count columns o.instances (valid_text o.text o.read)

@@ -18,7 +18,7 @@ use std::alloc::Global;
 use std::str;
 use std::thread::Threads;
 
-/// What a vertical has behind its byte order mark, where that is text. All columns are read from it, so it is tested once.
+/// What a vertical has behind its byte order mark, where that is text. All columns and the structures are read from it, so it is tested once.
 pub(crate) fn text_of(bytes: &[u8]) -> Result<&str, Unmade>
     ensures { IfOk result (λ text. text.now ≡ vertical.without_mark bytes.now) }
 {
@@ -28,22 +28,8 @@ pub(crate) fn text_of(bytes: &[u8]) -> Result<&str, Unmade>
     }
 }
 
-/// The tables of the first columns of a vertical, so many.
-pub(crate) fn vertical_columns<R: Threads + Sync>(
-    rt: &R,
-    alloc: Global,
-    bytes: &[u8],
-    count: usize,
-) -> Result<Vec<AttrTables>, Unmade>
-    ensures { IfOk result (λ tables. AreColumns (vertical.text_lines bytes.now) count tables.items) }
-{
-    let text = text_of(bytes)?;
-    let tables = all_columns(rt, alloc, text, count)?;
-    Ok(tables)
-}
-
 /// The tables of the first columns of a text's lines, so many, each made by threads of its own as far as the machine has them.
-fn all_columns<R: Threads + Sync>(
+pub(crate) fn all_columns<R: Threads + Sync>(
     rt: &R,
     alloc: Global,
     text: &str,

@@ -1,15 +1,16 @@
 //! What a vertical has beside its columns.
 
-ghost use Rattle.std.specs.Prelude.{◌≡◌, ◌≤◌, ◌∷◌, [], ◌++◌, length, filter, IfOk, OnOk};
+ghost use Rattle.std.specs.Prelude.{◌≡◌, ℕ, ◌≤◌, ◌∷◌, [], ◌++◌, List as Items, length, filter, IfOk, OnOk};
+ghost use Rattle.std.specs.Str.Lines.{lines};
 ghost use Rattle.mt_text_spec.specs.Registries.{ValidRegistry};
-ghost use Rattle.mt_text_spec.specs.Words.{IsName};
+ghost use Rattle.mt_file_spec.specs.Vertical.{text_lines};
 ghost use Rattle.mt_segment_spec.specs.Tables.{is_of_kind};
-ghost use Rattle.mt_vertical_tables.specs.Outlines.{IsOutline, kind_by_kind, narrow};
+ghost use Rattle.mt_vertical_tables.specs.Outlines.{IsOutline, kind_by_kind};
 
 use super::unmade::Unmade;
-use mt_base::{Attr, Kind, List, NoMemory, Registry, StructSpan, Value};
+use mt_base::{NoMemory, Registry, StructSpan};
 use mt_segment::Lists;
-use mt_vertical::read_text;
+use mt_vertical::read_outline;
 use std::alloc::Global;
 
 /// How many tokens a vertical has, and the instances of structures, kind by kind.
@@ -19,50 +20,22 @@ pub(crate) struct Outline {
     pub(crate) structs: Lists<StructSpan>,
 }
 
-/// Reads a vertical for its structures. Of the columns only the first is read beside them.
-pub(crate) fn read_outline(
+/// Reads a text's lines for its structures. Its tokens are only counted.
+pub(crate) fn text_outline(
     alloc: Global,
     registry: &Registry,
-    name: &Value,
-    bytes: &[u8],
+    text: &str,
 ) -> Result<Outline, Unmade>
-    requires registry { ValidRegistry registry.now }
-    requires name { IsName name.now }
-    ensures { IfOk result (λ outline. IsOutline registry.now name.now bytes.now outline.tokens outline.structs) }
+    requires { ValidRegistry registry.now }
+    ensures { IfOk result (λ outline. (name bytes : Items ℕ) → text_lines bytes ≡ lines text.now → IsOutline registry.now name bytes outline.tokens outline.structs) }
 {
-    let narrow = narrowed(alloc, registry)?;
-    let text = read_text(alloc, name.copy(alloc)?, bytes, &narrow)?;
-    let structs = instances(
-        alloc,
-        text.structs().as_slice(),
-        registry.kinds().len() as u16,
-    )?;
+    let text = read_outline(alloc, text, registry)?;
+    let kinds = registry.kinds().len() as u16;
+    let structs = instances(alloc, text.structs.as_slice(), kinds)?;
     Ok(Outline {
-        tokens: text.len() as u32,
+        tokens: text.tokens,
         structs,
     })
-}
-
-/// The registry with the same kinds of structures and one base attribute alone.
-fn narrowed(alloc: Global, registry: &Registry) -> Result<Registry, NoMemory>
-    ensures { IfOk result (λ narrowed. narrowed ≡ narrow registry.now) }
-{
-    let word = Value::new(alloc, "word")?;
-    let mut attrs = List::with_capacity(alloc, 1)?;
-    attrs.push(Attr::new(word, None, Value::from_string(String::new(alloc))))?;
-    let kinds = copy_kinds(alloc, registry.kinds().as_slice())?;
-    Ok(Registry::new(attrs, kinds, 0))
-}
-
-/// A copy of each kind of structure.
-fn copy_kinds(alloc: Global, kinds: &[Kind]) -> Result<List<Kind>, NoMemory>
-    ensures { IfOk result (λ copies. copies ≡ kinds.now) }
-{
-    let mut copies = List::with_capacity(alloc, kinds.len())?;
-    for kind in kinds {
-        copies.push(Kind::new(kind.name().copy(alloc)?, kind.attrs().copy(alloc)?))?;
-    }
-    Ok(copies)
 }
 
 /// Those of instances that are of the first kinds, so many, kind by kind, with copies of their values.

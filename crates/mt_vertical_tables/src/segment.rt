@@ -2,6 +2,7 @@
 
 ghost use Rattle.std.specs.Prelude.{◌≡◌, ◌<◌, ◌≤◌, ◌∷◌, [], None, length, map, List as Items, ℕ, IfOk, IfSome, IsTrue};
 ghost use Rattle.std.specs.List.{All};
+ghost use Rattle.std.specs.Str.Lines.{lines};
 ghost use Rattle.std.specs.Thread.{IsSync};
 ghost use Rattle.mt_text_spec.specs.Registries.{ValidRegistry};
 ghost use Rattle.mt_text_spec.specs.Texts.{Text, ValidText};
@@ -13,9 +14,9 @@ ghost use Rattle.mt_vertical_tables.specs.Columns.{AreColumns};
 ghost use Rattle.mt_vertical_tables.specs.Joined.{AreTablesOfVertical};
 ghost use Rattle.mt_vertical_tables.specs.Outlines.{IsOutline};
 
-use super::columns::{text_of, vertical_columns};
+use super::columns::{all_columns, text_of};
 use super::few::row_columns;
-use super::outline::{Outline, instances, read_outline};
+use super::outline::{Outline, instances, text_outline};
 use super::unmade::Unmade;
 use mt_base::{Attr, NoMemory, Registry, Value};
 use mt_segment::{AttrTables, Segment};
@@ -106,33 +107,32 @@ fn read_segment<R: Threads + Sync>(
     ensures { IfOk result (λ segment. AreTablesOfVertical registry.now name.now bytes.now segment) }
 {
     valid_texts();
-    let (outline, columns) = read_parts(rt, alloc, registry, name, bytes)?;
+    let text = text_of(bytes)?;
+    let (outline, columns) = read_parts(rt, alloc, registry, text)?;
     let segment = of_columns(alloc, name, outline, columns)?;
     Ok(segment)
 }
 
-/// What the tables of a vertical are made of, read side by side.
+/// What the tables of a text are made of, read side by side.
 fn read_parts<R: Threads + Sync>(
     rt: &R,
     alloc: Global,
     registry: &Registry,
-    name: &Value,
-    bytes: &[u8],
+    text: &str,
 ) -> Result<(Outline, Vec<AttrTables>), Unmade>
     requires registry { ValidRegistry registry.now }
-    requires name { IsName name.now }
-    ensures outline { IfOk result (λ parts. IsOutline registry.now name.now bytes.now parts.0.tokens parts.0.structs) }
-    ensures columns { IfOk result (λ parts. AreColumns (text_lines bytes.now) (length registry.now.attrs) parts.1.items) }
+    ensures outline { IfOk result (λ parts. (name bytes : Items ℕ) → text_lines bytes ≡ lines text.now → IsOutline registry.now name bytes parts.0.tokens parts.0.structs) }
+    ensures columns { IfOk result (λ parts. AreColumns (lines text.now) (length registry.now.attrs) parts.1.items) }
 {
     let count = registry.attrs().len();
     let outline = move || -> Result<Outline, Unmade>
-        requires { ValidRegistry registry.now × IsName name.now }
-        ensures { IfOk result (λ outline. IsOutline registry.entry.now name.entry.now bytes.entry.now outline.tokens outline.structs) }
-    { read_outline(alloc, registry, name, bytes) };
+        requires { ValidRegistry registry.now }
+        ensures { IfOk result (λ outline. (name bytes : Items ℕ) → text_lines bytes ≡ lines text.entry.now → IsOutline registry.entry.now name bytes outline.tokens outline.structs) }
+    { text_outline(alloc, registry, text) };
     let columns = move || -> Result<Vec<AttrTables>, Unmade>
         requires { IsSync R.row }
-        ensures { IfOk result (λ tables. AreColumns (text_lines bytes.entry.now) count tables.items) }
-    { vertical_columns(rt, alloc, bytes, count) };
+        ensures { IfOk result (λ tables. AreColumns (lines text.entry.now) count tables.items) }
+    { all_columns(rt, alloc, text, count) };
     let (outline, columns) = join(rt, outline, columns);
     let outline = outline?;
     let columns = columns?;
