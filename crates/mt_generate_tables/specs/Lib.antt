@@ -1,2 +1,2 @@
+pub mod Coded
 pub mod Joined
-pub mod Numbered

@@ -1,64 +1,98 @@
-//! The tokens of a generated text, numbered as they are drawn.
+//! The tokens of a generated text, drawn.
 
-ghost use Rattle.std.specs.Prelude.{◌≡◌, ◌-◌, ◌^◌, ◌<◌, length, IfOk, OnOk};
-ghost use Rattle.mt_generate_spec.specs.Generated.{token_of, tokens_from};
-ghost use Rattle.mt_generate_tables.specs.Numbered.{AreNumbered, Sees, TellsEnds, code_of, tokens_in};
+ghost use Rattle.std.specs.Prelude.{false, ◌≡◌, ◌<◌, ◌≤◌, length, replicate, IfOk};
+ghost use Rattle.mt_store_spec.specs.Lexicons.{IsLexiconOf, Renumbers};
+ghost use Rattle.mt_generate_spec.specs.Generated.{tokens_from};
+ghost use Rattle.mt_generate_tables.specs.Coded.{AreMarked, tokens_of, values_of};
 
+use super::coding::{ALL, code_of};
+use super::numbering::{number_values, renumber};
 use mt_base::NoMemory;
-use mt_generate::{Drawn, Source};
+use mt_generate::Source;
+use mt_lexicon::Lexicon;
 use std::alloc::Global;
+use std::marker::Model;
 
-/// So many tokens can be drawn: of 1,000 ranks, in singular and plural.
-const ALL: usize = 2_000;
-
-/// The distinct tokens of a text in the order of first sight, and for each token the number there.
+/// The tokens of a text, by the code of each. The distinct codes among them are kept in ascending order.
 #[derive(Drop)]
 pub(crate) struct Draws {
-    pub(crate) seen: Vec<Drawn>,
-    pub(crate) numbers: Vec<u16>,
+    codes: Vec<u16>,
+    seen: Vec<u16>,
 }
 
-/// The tokens of the seed, so many. Where each of them was seen before is looked up in a table of all that can be drawn.
-pub(crate) fn draw_tokens(alloc: Global, seed: u64, tokens: u32) -> Result<Draws, NoMemory>
-    ensures { IfOk result (λ draws. AreNumbered (tokens_in draws.seen.items) (tokens_from seed 0 tokens) draws.numbers.items) }
+impl Model for Draws {
+    ghost use Rattle.std.specs.Prelude.{List};
+    ghost use Rattle.mt_text_spec.specs.Texts.{Token};
+    ghost use Rattle.mt_generate_tables.specs.Coded.{AreSeen, tokens_of};
+
+    ghost Value = { List Token };
+
+    ghost view = { λ d. tokens_of d.codes.items };
+
+    ghost invariant = { λ d. AreSeen d.seen.items d.codes.items };
+}
+
+impl Draws {
+    /// The tokens of the seed, so many.
+    pub(crate) fn new(alloc: Global, seed: u64, tokens: u32) -> Result<Self, NoMemory>
+        ensures { IfOk result (λ draws. draws ≡ tokens_from seed 0 tokens) }
+    {
+        let mut marks = vec![in alloc; false; ALL]?;
+        let codes = draw(alloc, seed, tokens, marks.as_mut_slice())?;
+        let seen = marked(alloc, marks.as_slice())?;
+        Ok(Draws { codes, seen })
+    }
+
+    /// How many tokens there are.
+    pub(crate) fn len(&self) -> usize
+        ensures { result ≡ length self.now }
+    {
+        self.codes.len()
+    }
+
+    /// The lexicon of the values that the tokens have in a column, and the number there of each token's value.
+    pub(crate) fn number(
+        &self,
+        alloc: Global,
+        column: usize,
+    ) -> Result<(Lexicon, Vec<u32>), NoMemory>
+        requires { column < 3 }
+        ensures lexicon { IfOk result (λ r. IsLexiconOf (values_of column self.now) r.0) }
+        ensures numbers { IfOk result (λ r. Renumbers r.1.items (values_of column self.now) r.0) }
+    {
+        let (lexicon, table) = number_values(alloc, self.seen.as_slice(), column)?;
+        let numbers = renumber(alloc, self.codes.as_slice(), table.as_slice())?;
+        Ok((lexicon, numbers))
+    }
+}
+
+/// The codes of the tokens of the seed, so many. The mark of each of them is set.
+fn draw(alloc: Global, seed: u64, tokens: u32, marks: &mut [bool]) -> Result<Vec<u16>, NoMemory>
+    requires { marks.old ≡ replicate 2000 false }
+    ensures tokens { IfOk result (λ codes. tokens_of codes.items ≡ tokens_from seed 0 tokens) }
+    ensures marks { IfOk result (λ codes. AreMarked 2000 codes.items marks.new) }
 {
-    let mut ends = vec![in alloc; 0u16; ALL]?;
-    let mut seen = Vec::new(alloc);
-    let mut numbers = Vec::with_capacity(alloc, tokens as usize)?;
+    let mut codes = Vec::with_capacity(alloc, tokens as usize)?;
     let mut source = Source::new(seed);
     for _ in 0..tokens {
-        let number = see(ends.as_mut_slice(), &mut seen, source.draw())?;
-        numbers.push_reserved(number);
+        let code = code_of(source.draw());
+        marks[code as usize] = true;
+        codes.push_reserved(code);
     }
-    Ok(Draws { seen, numbers })
+    Ok(codes)
 }
 
-/// The number of a token, which is the next one where it is seen for the first time. The table has 0 for a token that was not seen, and for another one more than its
-/// number.
-fn see(ends: &mut [u16], seen: &mut Vec<Drawn>, token: Drawn) -> Result<u16, NoMemory>
-    requires low { token.rank < 1000 }
-    requires few { length seen.old.items < 2 ^ 16 - 1 }
-    requires tells { TellsEnds ends.old (tokens_in seen.old.items) }
-    ensures tells { OnOk result (TellsEnds ends.new (tokens_in seen.new.items)) }
-    ensures number { IfOk result (λ number. Sees (tokens_in seen.old.items) (token_of token.rank token.plural) (tokens_in seen.new.items) number) }
+/// The codes whose marks are set, in ascending order.
+fn marked(alloc: Global, marks: &[bool]) -> Result<Vec<u16>, NoMemory>
+    requires { length marks.now ≡ 2000 }
+    ensures marks { IfOk result (λ codes. AreMarked 2000 codes.items marks.now) }
+    ensures few { IfOk result (λ codes. length codes.items ≤ 2000) }
 {
-    let code = code(token);
-    let end = ends[code];
-    if end > 0 {
-        return Ok(end - 1);
+    let mut codes = Vec::new(alloc);
+    for (code, mark) in marks.iter().enumerate() {
+        if *mark {
+            codes.push(code as u16)?;
+        }
     }
-    let number = seen.len() as u16;
-    seen.push(token)?;
-    ends[code] = number + 1;
-    Ok(number)
-}
-
-/// The place of a token among all that can be drawn.
-fn code(token: Drawn) -> usize
-    requires { token.rank < 1000 }
-    ensures code { result ≡ code_of token.rank token.plural }
-    ensures low { result < 2000 }
-{
-    let rank = token.rank as usize;
-    if token.plural { 2 * rank + 1 } else { 2 * rank }
+    Ok(codes)
 }

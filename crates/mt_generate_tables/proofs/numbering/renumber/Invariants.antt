@@ -6,7 +6,7 @@ use Rattle.mt_generate_tables.proofs.numbering.renumber.Given as goal
 
 abbrev pub invariant-loop-number : goal.invariant-loop-number
 invariant-loop-number l = record {
-  capacity : length l.numbers ≤ vec_capacity l.room;
-  count : vec_len l.room ≡ l.number-index;
-  through : l.room.items ≡ renumbered l.table (take l.number-index l.numbers);
+  capacity : length l.numbers ≤ vec_capacity l.next;
+  count : vec_len l.next ≡ l.number-index;
+  through : l.next.items ≡ renumbered l.table (take l.number-index l.numbers);
 }

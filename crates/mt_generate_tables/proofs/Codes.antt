@@ -1,0 +1,214 @@
+-- Tokens that are told by codes, and their values.
+use Rattle.std.proofs.Common.{◌≡◌, ℕ, zero, suc, ◌+◌, ◌*◌, ◌/◌, ◌%◌, ◌==◌, ◌<◌, ◌≤◌, Bool, true, false, List, [], ◌∷◌, ◌++◌, length, length-append, map, take, get_or, set, replicate, slice_get, Some, refl, sym, ◌∙◌, ap, ap₂, subst, arith, ◌⊎◌, inl, inr}
+use Rattle.std.specs.Int.{from_bool}
+use Rattle.std.specs.List.{All, Contains}
+use Rattle.std.specs.Option.{option_map}
+use Rattle.std.proofs.lemmas.Bool.{cases_lt, cases_eq}
+use Rattle.std.proofs.lemmas.List.{map_more, length-map, length-set, length-replicate, get_or-replicate, map_push, get_or-map, get_or_default, get_or-set_same, get_or-set_other}
+use Rattle.std.proofs.lemmas.List.Elements.{All-push, All-from_get_or, Contains-append_left, Contains-append_right}
+use Rattle.std.proofs.lemmas.Option.{slice_get-get_or, slice_get-map}
+use Rattle.mt_text_spec.specs.Texts.{Token, value_of}
+use Rattle.mt_lexicon.specs.Joins.{renumbered}
+use Rattle.mt_store_spec.specs.Lexicons.{IsLexiconOf, Renumbers, seen_with}
+use Rattle.mt_segment.specs.Numbered.{IsNumbered, stands_for}
+use Rattle.mt_segment.proofs.Numbered.{values_more}
+use Rattle.mt_generate_spec.specs.Generated.{token_of, token_at, tokens_from}
+use Rattle.mt_generate.proofs.Ranges.{map_range_more}
+use Rattle.mt_generate_tables.specs.Coded.{AreMarked, AreSeen, IsTableOf, StandBeside, TellsNumbers, token_coded, tokens_of, values_of}
+
+-- ---- codes of tokens
+
+pub token_back : (rank : ℕ) (plural : Bool) (one : ℕ) → one ≡ from_bool plural → token_coded (2 * rank + one) ≡ token_of rank plural
+token_back rank true one e =
+    let half : (2 * rank + one) / 2 ≡ rank = omega arith in
+    let odd : (2 * rank + one) % 2 ≡ 1 = omega arith in
+    ap₂ token_of half (ap (λ (n : ℕ). n == 1) odd)
+token_back rank false one e =
+    let half : (2 * rank + one) / 2 ≡ rank = omega arith in
+    let even : (2 * rank + one) % 2 ≡ 0 = omega arith in
+    ap₂ token_of half (ap (λ (n : ℕ). n == 1) even)
+
+-- the next token of a seed
+pub one_drawn : (seed count : ℕ) (codes more : List ℕ) (token : Token) (code from place : ℕ) → tokens_of codes ≡ tokens_from seed 0 count → token_coded code ≡ token → token ≡ token_at from place → from ≡ seed → place ≡ count →
+    more ≡ codes ++ code ∷ [] → tokens_of more ≡ tokens_from seed 0 (count + 1)
+one_drawn seed count codes more token code from place all coded is same here e =
+    let last : 0 + count ≡ count = omega arith in
+    let at : token_coded code ≡ token_at seed (0 + count) = coded ∙ is ∙ ap₂ token_at same here ∙ ap (token_at seed) (sym last) in
+    ap tokens_of e ∙ map_push token_coded codes code ∙ ap₂ (λ (ts : List Token) (t : Token). ts ++ t ∷ []) all at ∙ sym (map_range_more (token_at seed) 0 count)
+
+-- ---- marks
+
+never : (count code : ℕ) → get_or (replicate count false) code false ≡ false
+never zero code = refl
+never (suc count) zero = refl
+never (suc count) (suc code) = never count code
+
+true-false : {X : Type 0} → true ≡ false → X
+true-false e = let wrong : ⊥ = cc in absurd wrong
+
+pub none_marked : (marks : List Bool) → marks ≡ replicate 2000 false → AreMarked 2000 [] marks
+none_marked marks e = record {
+  low = λ k d l. absurd (omega arith);
+  all = λ k d l. absurd (omega arith);
+  only = λ code l m. true-false (sym m ∙ ap (λ (ms : List Bool). get_or ms code false) e ∙ never 2000 code);
+}
+
+-- a mark is set
+abbrev IsSet : List Bool → ℕ → Type 0
+IsSet marks code = get_or marks code false ≡ true
+
+-- a code is drawn
+pub one_marked : (codes more : List ℕ) (marks : List Bool) (code : ℕ) → AreMarked 2000 codes marks → length marks ≡ 2000 → code < 2000 → more ≡ codes ++ code ∷ [] → AreMarked 2000 more (set marks code true)
+one_marked codes more marks code h long low e = rw e (record {
+  low = All-push (λ (n : ℕ). n < 2000) codes code h.low low;
+  all = All-push (IsSet (set marks code true)) codes code (λ k d l. kept (get_or codes k d) (h.all k d l) (cases_eq (get_or codes k d) code)) here;
+  only = λ other l m. found other l m (cases_eq other code);
+})
+  where
+    here : IsSet (set marks code true) code
+    here = get_or-set_same marks code true false (omega (arith, long, low))
+
+    kept : (other : ℕ) → IsSet marks other → (other ≡ code) ⊎ (other ≡ code → ⊥) → IsSet (set marks code true) other
+    kept other m (inl same) = subst (IsSet (set marks code true)) (sym same) here
+    kept other m (inr differs) = get_or-set_other marks code other true false differs ∙ m
+
+    found : (other : ℕ) → other < 2000 → IsSet (set marks code true) other → (other ≡ code) ⊎ (other ≡ code → ⊥) → Contains (codes ++ code ∷ []) other
+    found other l m (inl same) = rw same (Contains-append_right codes (code ∷ []) code (0, omega arith, refl))
+    found other l m (inr differs) = Contains-append_left codes (code ∷ []) other (h.only other l (sym (get_or-set_other marks code other true false differs) ∙ m))
+
+-- the marks are looked at one after the other
+pub none_listed : (codes : List ℕ) (marks : List Bool) → codes ≡ [] → AreMarked 0 codes marks
+none_listed codes marks e = rw e (record { low = λ k d l. absurd (omega arith); all = λ k d l. absurd (omega arith); only = λ code l m. absurd (omega arith) })
+
+pub one_listed : (codes more : List ℕ) (marks : List Bool) (code : ℕ) → AreMarked code codes marks → get_or marks code false ≡ true → more ≡ codes ++ code ∷ [] → AreMarked (code + 1) more marks
+one_listed codes more marks code h is e = rw e (record {
+  low = All-push (λ (n : ℕ). n < code + 1) codes code (λ k d l. omega (arith, h.low k d l)) (omega arith);
+  all = All-push (λ (n : ℕ). get_or marks n false ≡ true) codes code h.all is;
+  only = λ other l m. found other m (cases_lt other code) l;
+})
+  where
+    found : (other : ℕ) → get_or marks other false ≡ true → (other < code) ⊎ (code ≤ other) → other < code + 1 → Contains (codes ++ code ∷ []) other
+    found other m (inl below) l = Contains-append_left codes (code ∷ []) other (h.only other below m)
+    found other m (inr above) l = let same : other ≡ code = omega arith in rw same (Contains-append_right codes (code ∷ []) code (0, omega arith, refl))
+
+pub one_passed : (codes : List ℕ) (marks : List Bool) (code : ℕ) → AreMarked code codes marks → get_or marks code false ≡ false → AreMarked (code + 1) codes marks
+one_passed codes marks code h not = record { low = λ k d l. omega (arith, h.low k d l); all = h.all; only = λ other l m. found other m (cases_lt other code) l }
+  where
+    found : (other : ℕ) → get_or marks other false ≡ true → (other < code) ⊎ (code ≤ other) → other < code + 1 → Contains codes other
+    found other m (inl below) l = h.only other below m
+    found other m (inr above) l = let same : other ≡ code = omega arith in true-false (sym m ∙ ap (λ (n : ℕ). get_or marks n false) same ∙ not)
+
+-- what was drawn and what is listed have the same marks
+pub are_seen : (seen drawn : List ℕ) (marks : List Bool) → AreMarked 2000 drawn marks → AreMarked 2000 seen marks → length seen ≤ 2000 → AreSeen seen drawn
+are_seen seen drawn marks h g few = record {
+  low = g.low;
+  few = few;
+  all = λ k d l. g.only (get_or drawn k d) (h.low k d l) (h.all k d l);
+  only = λ k d l. h.only (get_or seen k d) (g.low k d l) (g.all k d l);
+}
+
+-- ---- the values of codes
+
+abbrev value : ℕ → ℕ → List ℕ
+value column code = value_of (token_coded code) column
+
+pub no_values : (seen : List (List ℕ)) (numbers : List ℕ) → length seen ≡ 0 → numbers ≡ [] → IsNumbered seen numbers
+no_values seen numbers none e = rw e (record { within = λ k d l. absurd (omega arith); only = λ k d l. absurd (omega (arith, none)); few = omega (arith, none) })
+
+values_are : (column : ℕ) (codes : List ℕ) → values_of column (tokens_of codes) ≡ map (value column) codes
+values_are column [] = refl
+values_are column (code ∷ codes) = ap (λ (vs : List (List ℕ)). value column code ∷ vs) (values_are column codes)
+
+-- the value of the next code
+pub value_next : (column i : ℕ) (codes : List ℕ) (before after : List (List ℕ)) (old new : List ℕ) (number : ℕ) → i < length codes → IsNumbered before old → stands_for before old ≡ values_of column (tokens_of (take i codes)) →
+    after ≡ seen_with before (value column (get_or codes i 0)) → slice_get after number ≡ Some (value column (get_or codes i 0)) → new ≡ old ++ number ∷ [] → stands_for after new ≡ values_of column (tokens_of (take (i + 1) codes))
+value_next column i codes before after old new number l h g seen found more =
+    ap (stands_for after) more ∙ values_more before after old (value column (get_or codes i 0)) number h seen found
+    ∙ ap (λ (vs : List (List ℕ)). vs ++ value column (get_or codes i 0) ∷ []) (g ∙ values_are column (take i codes)) ∙ sym (values_are column (take (i + 1) codes) ∙ map_more (value column) codes i 0 l)
+
+value_at : (column : ℕ) (codes : List ℕ) (k : ℕ) → k < length codes → slice_get (values_of column (tokens_of codes)) k ≡ Some (value column (get_or codes k 0))
+value_at column codes k l = ap (λ (vs : List (List ℕ)). slice_get vs k) (values_are column codes) ∙ slice_get-map (value column) codes k ∙ ap (option_map (value column)) (slice_get-get_or codes k 0 l)
+
+pub length_values : (column : ℕ) (codes : List ℕ) → length (values_of column (tokens_of codes)) ≡ length codes
+length_values column codes = ap length (values_are column codes) ∙ length-map codes (value column)
+
+value_read : (column : ℕ) (codes : List ℕ) (k : ℕ) (d : List ℕ) → k < length codes → get_or (values_of column (tokens_of codes)) k d ≡ value column (get_or codes k 0)
+value_read column codes k d l = ap (λ (vs : List (List ℕ)). get_or vs k d) (values_are column codes) ∙ get_or-map (value column) codes k 0 d l
+
+has_value : (column : ℕ) (codes : List ℕ) (code : ℕ) → Contains codes code → Contains (values_of column (tokens_of codes)) (value column code)
+has_value column codes code (k, l, e) = (k, omega (arith, l, length_values column codes), value_read column codes k (value column code) l ∙ ap (value column) (get_or_default codes k 0 code l ∙ e))
+
+of_all : {X : Type 0} (P : X → Type 0) (xs : List X) (x : X) → All P xs → Contains xs x → P x
+of_all P xs x h (k, l, e) = subst P e (h k x l)
+
+-- ---- a table of all codes
+
+pub no_table : (codes numbers table : List ℕ) → table ≡ replicate 2000 0 → IsTableOf codes numbers 0 table
+no_table codes numbers table e = record { long = ap length e ∙ length-replicate {A = ℕ} 2000 0; at = λ k l. absurd (omega arith) }
+
+pub one_put : (codes numbers table : List ℕ) (place code number : ℕ) → IsTableOf codes numbers place table → All (λ code. code < 2000) codes → place < length codes → code ≡ get_or codes place 0 → number ≡ get_or numbers place 0 →
+    IsTableOf codes numbers (place + 1) (set table code number)
+one_put codes numbers table place code number h low l here is = record {
+  long = length-set table code number ∙ h.long;
+  at = λ k m. at k m (cases_eq (get_or codes k 0) code);
+}
+  where
+    at : (k : ℕ) → k < place + 1 → (get_or codes k 0 ≡ code) ⊎ (get_or codes k 0 ≡ code → ⊥) → StandBeside codes numbers (place + 1) (get_or codes k 0) (get_or (set table code number) (get_or codes k 0) 0)
+    at k m (inl same) = record {
+      place = place;
+      within = omega arith;
+      has_code = sym (same ∙ here);
+      has_number = sym (ap (λ (c : ℕ). get_or (set table code number) c 0) same ∙ get_or-set_same table code number 0 (omega (arith, h.long, here, low place 0 l)) ∙ is);
+    }
+    at k m (inr differs) =
+        let another : k ≡ place → ⊥ = λ e. differs (ap (λ (j : ℕ). get_or codes j 0) e ∙ sym here) in
+        let b = h.at k (below k m another (cases_lt k place)) in
+        record {
+          place = b.place;
+          within = omega (arith, b.within);
+          has_code = b.has_code;
+          has_number = b.has_number ∙ sym (get_or-set_other table code (get_or codes k 0) number 0 differs);
+        }
+      where
+        below : (k : ℕ) → k < place + 1 → (k ≡ place → ⊥) → (k < place) ⊎ (place ≤ k) → k < place
+        below k m another (inl l) = l
+        below k m another (inr l) = absurd (another (omega arith))
+
+pub tells : (column : ℕ) (codes : List ℕ) (lexicon : List (List ℕ)) (numbers table : List ℕ) → Renumbers numbers (values_of column (tokens_of codes)) lexicon → IsTableOf codes numbers (length codes) table → TellsNumbers column codes lexicon table
+tells column codes lexicon numbers table g h = record { long = h.long; at = at }
+  where
+    at : (code : ℕ) → Contains codes code → slice_get lexicon (get_or table code 0) ≡ Some (value column code)
+    at code (k, l, e) =
+        let here : get_or codes k 0 ≡ code = get_or_default codes k 0 code l ∙ e in
+        let b = h.at k l in
+        let number : get_or table code 0 ≡ get_or numbers b.place 0 = sym (b.has_number ∙ ap (λ (c : ℕ). get_or table c 0) here) in
+        ap (slice_get lexicon) number ∙ g.same b.place (omega (arith, b.within, length_values column codes)) ∙ value_at column codes b.place b.within ∙ ap (λ (c : ℕ). Some (value column c)) (b.has_code ∙ here)
+
+-- ---- the values of all tokens
+
+-- codes that were drawn are of the table
+pub drawn_low : (seen drawn : List ℕ) → AreSeen seen drawn → All (λ code. code < 2000) drawn
+drawn_low seen drawn h = λ k d l. of_all (λ code. code < 2000) seen (get_or drawn k d) h.low (h.all k d l)
+
+module _ (column : ℕ) (seen drawn : List ℕ) (h : AreSeen seen drawn) where
+  pub column_numbers : (table : List ℕ) (lexicon : List (List ℕ)) → TellsNumbers column seen lexicon table → Renumbers (renumbered table drawn) (values_of column (tokens_of drawn)) lexicon
+  column_numbers table lexicon t = record {
+    count = length-map drawn (λ n. get_or table n 0) ∙ sym (length_values column drawn);
+    same = λ k l.
+        let within : k < length drawn = omega (arith, length_values column drawn) in
+        ap (slice_get lexicon) (get_or-map (λ (n : ℕ). get_or table n 0) drawn k 0 0 within) ∙ t.at (get_or drawn k 0) (h.all k 0 within) ∙ sym (value_at column drawn k within);
+  }
+
+  pub column_lexicon : (lexicon : List (List ℕ)) → IsLexiconOf (values_of column (tokens_of seen)) lexicon → IsLexiconOf (values_of column (tokens_of drawn)) lexicon
+  column_lexicon lexicon g = record {
+    ascending = g.ascending;
+    all = All-from_get_or (Contains lexicon) (values_of column (tokens_of drawn)) [] (λ k l.
+        let within : k < length drawn = omega (arith, length_values column drawn) in
+        let is : get_or (values_of column (tokens_of drawn)) k [] ≡ value column (get_or drawn k 0) = value_read column drawn k [] within in
+        rw is (of_all (Contains lexicon) (values_of column (tokens_of seen)) (value column (get_or drawn k 0)) g.all (has_value column seen (get_or drawn k 0) (h.all k 0 within))));
+    only = All-from_get_or (Contains (values_of column (tokens_of drawn))) lexicon [] (λ k l.
+        let (j, m, e) = g.only k [] l in
+        let within : j < length seen = omega (arith, m, length_values column seen) in
+        let is : value column (get_or seen j 0) ≡ get_or lexicon k [] = sym (value_read column seen j (get_or lexicon k []) within) ∙ e in
+        subst (Contains (values_of column (tokens_of drawn))) is (has_value column drawn (get_or seen j 0) (h.only j 0 within)));
+  }
