@@ -1,10 +1,10 @@
 -- Tokens that are told by codes, and their values.
-use Rattle.std.proofs.Common.{◌≡◌, ℕ, zero, suc, ◌+◌, ◌*◌, ◌/◌, ◌%◌, ◌==◌, ◌<◌, ◌≤◌, Bool, true, false, List, [], ◌∷◌, ◌++◌, length, length-append, map, take, get_or, set, replicate, slice_get, Some, refl, sym, ◌∙◌, ap, ap₂, subst, arith, ◌⊎◌, inl, inr}
+use Rattle.std.proofs.Common.{◌≡◌, ℕ, zero, suc, ◌+◌, ◌*◌, ◌/◌, ◌%◌, ◌==◌, ◌<◌, ◌≤◌, Bool, true, false, List, [], ◌∷◌, ◌++◌, length, map, take, get_or, set, replicate, slice_get, Some, refl, sym, ◌∙◌, ap, ap₂, subst, arith, ◌⊎◌, inl, inr}
 use Rattle.std.specs.Int.{from_bool}
 use Rattle.std.specs.List.{All, Contains}
 use Rattle.std.specs.Option.{option_map}
 use Rattle.std.proofs.lemmas.Bool.{cases_lt, cases_eq}
-use Rattle.std.proofs.lemmas.List.{map_more, length-map, length-set, length-replicate, get_or-replicate, map_push, get_or-map, get_or_default, get_or-set_same, get_or-set_other}
+use Rattle.std.proofs.lemmas.List.{map_more, length-map, length-set, length-replicate, map_push, get_or-map, get_or_default, get_or-set_same, get_or-set_other}
 use Rattle.std.proofs.lemmas.List.Elements.{All-push, All-from_get_or, Contains-append_left, Contains-append_right}
 use Rattle.std.proofs.lemmas.Option.{slice_get-get_or, slice_get-map}
 use Rattle.mt_text_spec.specs.Texts.{Token, value_of}
@@ -76,28 +76,6 @@ one_marked codes more marks code h long low e = rw e (record {
     found other l m (inl same) = rw same (Contains-append_right codes (code ∷ []) code (0, omega arith, refl))
     found other l m (inr differs) = Contains-append_left codes (code ∷ []) other (h.only other l (sym (get_or-set_other marks code other true false differs) ∙ m))
 
--- the marks are looked at one after the other
-pub none_listed : (codes : List ℕ) (marks : List Bool) → codes ≡ [] → AreMarked 0 codes marks
-none_listed codes marks e = rw e (record { low = λ k d l. absurd (omega arith); all = λ k d l. absurd (omega arith); only = λ code l m. absurd (omega arith) })
-
-pub one_listed : (codes more : List ℕ) (marks : List Bool) (code : ℕ) → AreMarked code codes marks → get_or marks code false ≡ true → more ≡ codes ++ code ∷ [] → AreMarked (code + 1) more marks
-one_listed codes more marks code h is e = rw e (record {
-  low = All-push (λ (n : ℕ). n < code + 1) codes code (λ k d l. omega (arith, h.low k d l)) (omega arith);
-  all = All-push (λ (n : ℕ). get_or marks n false ≡ true) codes code h.all is;
-  only = λ other l m. found other m (cases_lt other code) l;
-})
-  where
-    found : (other : ℕ) → get_or marks other false ≡ true → (other < code) ⊎ (code ≤ other) → other < code + 1 → Contains (codes ++ code ∷ []) other
-    found other m (inl below) l = Contains-append_left codes (code ∷ []) other (h.only other below m)
-    found other m (inr above) l = let same : other ≡ code = omega arith in rw same (Contains-append_right codes (code ∷ []) code (0, omega arith, refl))
-
-pub one_passed : (codes : List ℕ) (marks : List Bool) (code : ℕ) → AreMarked code codes marks → get_or marks code false ≡ false → AreMarked (code + 1) codes marks
-one_passed codes marks code h not = record { low = λ k d l. omega (arith, h.low k d l); all = h.all; only = λ other l m. found other m (cases_lt other code) l }
-  where
-    found : (other : ℕ) → get_or marks other false ≡ true → (other < code) ⊎ (code ≤ other) → other < code + 1 → Contains codes other
-    found other m (inl below) l = h.only other below m
-    found other m (inr above) l = let same : other ≡ code = omega arith in true-false (sym m ∙ ap (λ (n : ℕ). get_or marks n false) same ∙ not)
-
 -- what was drawn and what is listed have the same marks
 pub are_seen : (seen drawn : List ℕ) (marks : List Bool) → AreMarked 2000 drawn marks → AreMarked 2000 seen marks → length seen ≤ 2000 → AreSeen seen drawn
 are_seen seen drawn marks h g few = record {
@@ -129,7 +107,7 @@ value_next column i codes before after old new number l h g seen found more =
 value_at : (column : ℕ) (codes : List ℕ) (k : ℕ) → k < length codes → slice_get (values_of column (tokens_of codes)) k ≡ Some (value column (get_or codes k 0))
 value_at column codes k l = ap (λ (vs : List (List ℕ)). slice_get vs k) (values_are column codes) ∙ slice_get-map (value column) codes k ∙ ap (option_map (value column)) (slice_get-get_or codes k 0 l)
 
-pub length_values : (column : ℕ) (codes : List ℕ) → length (values_of column (tokens_of codes)) ≡ length codes
+length_values : (column : ℕ) (codes : List ℕ) → length (values_of column (tokens_of codes)) ≡ length codes
 length_values column codes = ap length (values_are column codes) ∙ length-map codes (value column)
 
 value_read : (column : ℕ) (codes : List ℕ) (k : ℕ) (d : List ℕ) → k < length codes → get_or (values_of column (tokens_of codes)) k d ≡ value column (get_or codes k 0)

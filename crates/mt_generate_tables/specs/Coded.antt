@@ -1,5 +1,5 @@
 -- Tokens that are told by codes, and what is known of each code.
-use Rattle.std.specs.Prelude.{ℕ, ◌≡◌, ◌*◌, ◌/◌, ◌%◌, ◌<◌, ◌≤◌, Bool, true, false, ◌==◌, List, length, map, slice_get, slice_index, slice_index_or, Some}
+use Rattle.std.specs.Prelude.{ℕ, ◌≡◌, ◌/◌, ◌%◌, ◌<◌, ◌≤◌, Bool, true, false, ◌==◌, List, length, map, slice_get, slice_index, slice_index_or, Some}
 use Rattle.std.specs.List.{All, Contains}
 use Rattle.mt_text_spec.specs.Texts.{Token, value_of}
 use Rattle.mt_generate_spec.specs.Generated.{token_of}

@@ -88,11 +88,7 @@ fn by_code(alloc: Global, codes: &[u16], numbers: &[u32]) -> Result<Vec<u32>, No
 }
 
 /// For each number what a table has in its place.
-pub(crate) fn renumber(
-    alloc: Global,
-    numbers: &[u16],
-    table: &[u32],
-) -> Result<Vec<u32>, NoMemory>
+pub(crate) fn renumber(alloc: Global, numbers: &[u16], table: &[u32]) -> Result<Vec<u32>, NoMemory>
     requires { All (λ n. n < length table.now) numbers.now }
     ensures { IfOk result (λ next. next.items ≡ renumbered table.now numbers.now) }
 {

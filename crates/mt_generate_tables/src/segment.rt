@@ -37,9 +37,9 @@ impl Model for ColumnTables {
     ghost view = { λ t. record { base = None; lexicon = t.lexicon; numbers = t.column; postings = t.postings } };
 }
 
-/// The segment of the generated text of this name that has so many tokens drawn from the seed, under the standard registry. The text itself is not made. Where
-/// the machine has more than one thread at a time, many tokens are drawn by one thread while another makes the instances, and then three make the tables, one for each
-/// column, of which each has another beside it that makes half of the lists of places.
+/// The segment of the generated text of this name that has so many tokens drawn from the seed, under the standard registry. The text itself is not made. Where the
+/// machine runs more than one thread at a time, one draws many tokens while another makes the instances. Then three make the tables, a column each, and beside each
+/// of them another makes half of the column's lists of places.
 pub fn generated_segment<R: Threads + Sync>(
     rt: &R,
     alloc: Global,

@@ -1,4 +1,4 @@
-use Rattle.std.proofs.Common.{◌+◌, ◌≡◌, ℕ, length, get_or, subst, refl, arith}
+use Rattle.std.proofs.Common.{◌≡◌, ℕ, length, get_or, subst, refl, arith}
 use Rattle.mt_generate_tables.specs.Coded.{IsTableOf}
 use Rattle.mt_generate_tables.proofs.Codes.{no_table, one_put}
 use Rattle.mt_generate_tables.proofs.numbering.by_code.Goals as goal

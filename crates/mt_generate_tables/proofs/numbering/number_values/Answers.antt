@@ -1,4 +1,4 @@
-use Rattle.std.proofs.Common.{◌≡◌, ◌∙◌, List, ℕ, ap₂}
+use Rattle.std.proofs.Common.{◌≡◌, ◌∙◌, ap₂}
 use Rattle.mt_lexicon.specs.Joins.{renumbered}
 use Rattle.mt_store_spec.specs.Lexicons.{Renumbers}
 use Rattle.mt_segment.proofs.Numbered.{finished_lexicon, finished_numbers}

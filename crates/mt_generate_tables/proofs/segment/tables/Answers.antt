@@ -1,4 +1,4 @@
-use Rattle.std.proofs.Common.{◌≡◌, ◌∙◌, None, List, ℕ, sym, subst, length, refl, arith}
+use Rattle.std.proofs.Common.{◌≡◌, ◌∙◌, None, List, ℕ, sym, subst, length, refl}
 use Rattle.mt_store_spec.specs.Lexicons.{Renumbers}
 use Rattle.mt_segment.specs.Parts.{AreInverted}
 use Rattle.mt_segment.proofs.Valued.{base_made, numbers_low}

@@ -1,4 +1,4 @@
-use Rattle.std.proofs.Common.{◌≡◌, ◌∙◌, ℕ, Bool, List, ap, length, sym, subst, arith}
+use Rattle.std.proofs.Common.{◌≡◌, ◌∙◌, Bool, List, subst, arith}
 use Rattle.std.proofs.lemmas.List.{with_items_is}
 use Rattle.mt_generate_tables.specs.Coded.{AreMarked}
 use Rattle.mt_generate_tables.proofs.Codes.{are_seen}
