@@ -1,5 +1,6 @@
 pub mod Beside
 pub mod Lists
+pub mod Marks
 pub mod Packing
 pub mod RoleColumns
 pub mod Tables

@@ -1,17 +1,16 @@
 -- The values of a column, line by line.
-use Rattle.std.proofs.Common.{◌≡◌, ℕ, ◌≤◌, Bool, true, false, true≢false, List, [], ◌∷◌, ◌++◌, length, map, refl, sym, ◌∙◌, ap, ap₂, subst, append_assoc, append-nil, ◌⊎◌, inl, inr, Option, None, Some}
+use Rattle.std.proofs.Common.{◌≡◌, ℕ, ◌≤◌, Bool, true, false, true≢false, List, [], ◌∷◌, ◌++◌, length, map, refl, sym, ◌∙◌, ap, ap₂, subst, append_assoc, append-nil, ◌⊎◌, inl, inr, Option}
 use Rattle.std.specs.Bool.{Decides}
 use Rattle.std.specs.List.{All, AllZip}
-use Rattle.std.specs.Iterator.{AlwaysYields}
-use Rattle.std.specs.Str.Iter.{lines_rest, lines_steps}
 use Rattle.std.specs.Str.Lines.{lines}
-use Rattle.std.proofs.lemmas.Iterator.Splits.{YieldsList-from_lines}
+use Rattle.std.proofs.lemmas.List.{nil_from_length}
 use Rattle.std.proofs.lemmas.List.Elements.{All-nil, All-cons, All-head, All-tail}
 use Rattle.mt_text_spec.specs.Texts.{value_bytes_limit}
 use Rattle.mt_store_spec.specs.Lexicons.{kept_values}
 use Rattle.mt_vertical.specs.Columns.{column_in}
 use Rattle.mt_vertical.specs.Lines.{IsToken}
 use Rattle.mt_vertical_tables.specs.Columns.{AddsLine, AreValuesIn, IsValueIn}
+use Rattle.mt_vertical_tables.specs.Marks.{IsFirstValue, IsValue}
 
 -- the values of lines, told line by line
 abbrev pub ByLine : ℕ → List (List ℕ) → List (List ℕ) → Type 0
@@ -53,18 +52,12 @@ one_by_one column (line ∷ ls) values (true ∷ are_tokens) told e short =
 pub by_line : (column : ℕ) (ls values : List (List ℕ)) → AreValuesIn column ls values → ByLine column ls values
 by_line column ls values h = one_by_one column ls values h.are_tokens h.told h.are h.short
 
--- with the values of the lines that are left, those so far are the values of all lines
-pub record IsAt {S A : Type 0} (steps : S → Option A → S → Type 0) (view : A → List ℕ) (column : ℕ) (all : List (List ℕ)) (rest : S) (seen : List (List ℕ)) : Type 0 where
-  pub left : List (List ℕ)
-  pub yields : AlwaysYields steps view rest left
-  pub so_far : (values : List (List ℕ)) → ByLine column left values → ByLine column all (seen ++ values)
+-- with the values of the lines of what is left, those so far are the values of all lines
+pub record IsAt (column : ℕ) (text rest : List ℕ) (seen : List (List ℕ)) : Type 0 where
+  pub so_far : (values : List (List ℕ)) → ByLine column (lines rest) values → ByLine column (lines text) (seen ++ values)
 
-pub at_front : {rest : _} (column : ℕ) (text : List ℕ) (seen : List (List ℕ)) → lines_rest rest ≡ text → seen ≡ [] → IsAt lines_steps (λ line. line.now) column (lines text) rest seen
-at_front column text seen e none = record {
-  left = lines text;
-  yields = (YieldsList-from_lines text e).runs;
-  so_far = λ values h. subst (λ (vs : List (List ℕ)). ByLine column (lines text) (vs ++ values)) (sym none) h;
-}
+pub at_front : (column : ℕ) (text : List ℕ) (seen : List (List ℕ)) → seen ≡ [] → IsAt column text text seen
+at_front column text seen none = record { so_far = λ values h. subst (λ (vs : List (List ℕ)). ByLine column (lines text) (vs ++ values)) (sym none) h }
 
 one_more : (column : ℕ) (all rest : List (List ℕ)) (line : List ℕ) (seen new : List (List ℕ)) → AddsLine column line seen new →
     ((values : List (List ℕ)) → ByLine column (line ∷ rest) values → ByLine column all (seen ++ values)) → (values : List (List ℕ)) → ByLine column rest values → ByLine column all (new ++ values)
@@ -73,19 +66,14 @@ one_more column all rest line seen new (inr (value, is, more)) g values h =
     let both : seen ++ value ∷ values ≡ new ++ values = sym (append_assoc seen (value ∷ []) values) ∙ ap (λ vs. vs ++ values) (sym more) in
     subst (ByLine column all) both (g (value ∷ values) (inr (value, values, refl, is, h)))
 
-module _ {S A : Type 0} (steps : S → Option A → S → Type 0) (view : A → List ℕ) (column : ℕ) (all : List (List ℕ)) (old rest : S) where
-  pub goes_on : (line : A) (seen new : List (List ℕ)) → steps old (Some line) rest → AddsLine column (view line) seen new → IsAt steps view column all old seen → IsAt steps view column all rest new
-  goes_on line seen new s a h = by h.left h.yields h.so_far
-    where
-      by : (left : List (List ℕ)) → AlwaysYields steps view old left → ((values : List (List ℕ)) → ByLine column left values → ByLine column all (seen ++ values)) → IsAt steps view column all rest new
-      by [] y g = absurd (y line rest s)
-      by (first ∷ others) y g =
-          let (is, next) = y.1 line rest s in
-          record { left = others; yields = next; so_far = one_more column all others first seen new (subst (λ (l : List ℕ). AddsLine column l seen new) is a) g }
+pub goes_on : (column : ℕ) (text old rest : List ℕ) (value : Option (List ℕ)) (seen new : List (List ℕ)) → IsFirstValue column old value rest →
+    ((number : ℕ) (line : List ℕ) → IsValue number line value → AddsLine number line seen new) → IsAt column text old seen → IsAt column text rest new
+goes_on column text old rest value seen new f adds s = record {
+  so_far = one_more column (lines text) (lines rest) f.line seen new (adds column f.line f.told)
+      (subst (λ (ls : List (List ℕ)). (values : List (List ℕ)) → ByLine column ls values → ByLine column (lines text) (seen ++ values)) f.first s.so_far);
+}
 
-  pub all_seen : (seen : List (List ℕ)) → steps old None rest → IsAt steps view column all old seen → AreValuesIn column all seen
-  all_seen seen s h = together column all seen (by h.left h.yields h.so_far)
-    where
-      by : (left : List (List ℕ)) → AlwaysYields steps view old left → ((values : List (List ℕ)) → ByLine column left values → ByLine column all (seen ++ values)) → ByLine column all seen
-      by [] y g = subst (ByLine column all) (append-nil seen) (g [] refl)
-      by (first ∷ others) y g = absurd (y.0 rest s)
+pub all_seen : (column : ℕ) (text rest : List ℕ) (seen : List (List ℕ)) → length rest ≡ 0 → IsAt column text rest seen → AreValuesIn column (lines text) seen
+all_seen column text rest seen none s =
+    let left : lines rest ≡ [] = ap lines (nil_from_length rest none) in
+    together column (lines text) seen (subst (ByLine column (lines text)) (append-nil seen) (s.so_far [] (subst (λ (ls : List (List ℕ)). ByLine column ls []) (sym left) refl)))

@@ -1,18 +1,20 @@
 //! The columns of a vertical.
 
-ghost use Rattle.std.specs.Prelude.{◌≡◌, ◌≤◌, [], ◌∷◌, ◌++◌, length, IfOk, OnOk};
+ghost use Rattle.std.specs.Prelude.{◌≡◌, ℕ, ◌≤◌, [], ◌∷◌, ◌++◌, List as Items, length, option_map, IfOk, OnOk};
 ghost use Rattle.mt_text_spec.specs.Texts.{text_tokens_limit, value_bytes_limit};
 ghost use Rattle.std.specs.Str.Lines.{lines};
 ghost use Rattle.std.specs.Thread.{IsSync};
 ghost use Rattle.mt_file_spec.specs.Vertical as vertical;
 ghost use Rattle.mt_vertical_tables.specs.Columns.{AddsLine, AreColumns, AreValuesIn, IsColumnOf};
+ghost use Rattle.mt_vertical_tables.specs.Marks.{IsValue};
 
+use super::marked::first_value;
 use super::numbering::Numbering;
 use super::unmade::Unmade;
 use mt_base::List;
 use mt_base::limits::{TEXT_TOKENS_LIMIT, VALUE_BYTES_LIMIT};
 use mt_segment::{AttrTables, Column, postings_beside};
-use mt_vertical::{token_value, without_mark};
+use mt_vertical::without_mark;
 use rayon::prelude::*;
 use std::alloc::Global;
 use std::str;
@@ -72,19 +74,22 @@ fn number_lines(alloc: Global, text: &str, column: usize) -> Result<Numbering, U
     ensures few { IfOk result (λ numbering. length numbering ≤ text_tokens_limit) }
 {
     let mut numbering = Numbering::new(alloc)?;
-    for line in text.lines() {
-        add_line(&mut numbering, line, column)?;
+    let mut rest = text;
+    while !rest.is_empty() {
+        let (value, others) = first_value(rest, column);
+        add_told(&mut numbering, value)?;
+        rest = others;
     }
     Ok(numbering)
 }
 
-/// Adds the value that a line has in a column, if the line is a token.
-fn add_line(numbering: &mut Numbering, line: &str, column: usize) -> Result<(), Unmade>
+/// Adds the value of a line, if the line is a token.
+fn add_told(numbering: &mut Numbering, value: Option<&str>) -> Result<(), Unmade>
     requires { length numbering.old ≤ text_tokens_limit }
     ensures few { OnOk result (length numbering.new ≤ text_tokens_limit) }
-    ensures adds { OnOk result (AddsLine column line.now numbering.old numbering.new) }
+    ensures adds { OnOk result ((column : ℕ) (line : Items ℕ) → IsValue column line (option_map (λ value. value.now) value.entry) → AddsLine column line numbering.old numbering.new) }
 {
-    match token_value(line, column) {
+    match value {
         Some(value) => add_value(numbering, value),
         None => Ok(()),
     }

@@ -8,6 +8,7 @@
 mod columns;
 mod few;
 mod known;
+mod marked;
 mod numbering;
 mod outline;
 mod segment;
