@@ -71,13 +71,13 @@ impl GrammarCounts {
     }
 
     /// Makes the contexts, where there are none yet.
-    pub fn prepare(&mut self, alloc: Global) -> Result<(), NoMemory>
+    pub fn prepare<R: Threads + Sync>(&mut self, rt: &R, alloc: Global) -> Result<(), NoMemory>
         requires { AreOfSome self.old }
         ensures { self.new ≡ self.old }
     {
         counts_are_within();
         if self.contexts.is_none() {
-            self.contexts = Some(Contexts::new(alloc, &self.triples)?);
+            self.contexts = Some(Contexts::new(rt, alloc, &self.triples)?);
         }
         Ok(())
     }
@@ -112,7 +112,7 @@ impl GrammarCounts {
         counts_are_within();
         match &self.contexts {
             Some(contexts) => contexts.thesaurus(rt, alloc, lemma, max),
-            None => Contexts::new(alloc, &self.triples)?.thesaurus(rt, alloc, lemma, max),
+            None => Contexts::new(rt, alloc, &self.triples)?.thesaurus(rt, alloc, lemma, max),
         }
     }
 }

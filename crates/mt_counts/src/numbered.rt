@@ -2,6 +2,7 @@
 
 ghost use Rattle.std.specs.Prelude.{◌≡◌, ◌^◌, ◌<◌, length, slice_get, Some};
 ghost use Rattle.mt_counts.specs.Numbered.{IsNumberingOf, place_of};
+ghost use Rattle.mt_counts.specs.Totals.{count_at};
 
 use super::counts::Counts;
 use super::tables::Tables;
@@ -88,23 +89,25 @@ impl<'a> Numbered<'a> {
     {
         let ((row, second), both) = self.tables.both.get(place);
         let ((word, name), left) = self.tables.rows.get(row as usize);
+        let (context, right) = numbered_count(&self.tables.columns, second, name);
         Entry {
             word,
-            context: number_of(&self.tables.columns, second, name),
+            context,
             both,
             left,
-            right: self.tables.columns.count_of(second, name),
+            right,
         }
     }
 }
 
-/// The place of a pair, or the number of pairs where it has none.
-fn number_of(tally: &Tally, group: u32, member: u32) -> u32
-    ensures { result ≡ place_of tally.now (group, member) }
+/// The place of a pair and its count, or the number of pairs and 0 where it has none.
+fn numbered_count(tally: &Tally, group: u32, member: u32) -> (u32, u64)
+    ensures place { result.0 ≡ place_of tally.now (group, member) }
+    ensures count { result.1 ≡ count_at tally.now (group, member) }
 {
     let len = tally.len();
     match tally.find(group, member) {
-        Some(place) => place,
-        None => len as u32,
+        Some(place) => (place, tally.get(place as usize).1),
+        None => (len as u32, 0),
     }
 }

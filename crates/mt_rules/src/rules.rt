@@ -13,6 +13,7 @@ use mt_grammar_counts::{GrammarPatterns, TextCounts};
 use mt_pattern::PatternShop;
 use std::alloc::Global;
 use std::marker::Model;
+use std::thread::Threads;
 
 /// A sketch grammar that is held over a corpus: with its patterns, which are built once, with what it counts over the texts, and with memory in which one more text is counted. Contracts see the grammar and the
 /// counts.
@@ -48,11 +49,11 @@ impl<P: PatternShop> Rules<P> {
     }
 
     /// Makes what a thesaurus needs, once for the texts that are held. It changes nothing that contracts see.
-    pub fn prepare(&mut self, alloc: Global) -> Result<(), NoMemory>
+    pub fn prepare<R: Threads + Sync>(&mut self, rt: &R, alloc: Global) -> Result<(), NoMemory>
         requires { AreOfSome self.old.counted }
         ensures { self.new ≡ self.old }
     {
-        self.counts.prepare(alloc)
+        self.counts.prepare(rt, alloc)
     }
 
     /// How many relations the grammar has for its user: one that has two names counts twice.

@@ -79,14 +79,14 @@ impl<P: PatternShop> State<P> {
         ensures means { AnswersBeside setting self.old.held (spec.Asks (ask_of ask.now)) result self.new.held (P.refused shop.old) (P.refused shop.new) }
         ensures same { self.new ≡ self.old }
     {
-        let Ok(()) = self.prepare_for(ask) else {
+        let Ok(()) = self.prepare_for(rt, ask) else {
             return Reply::NoMemory;
         };
         self.answer_prepared(rt, ask, shop)
     }
 
     /// Makes what the question needs of the grammar, if that is not made yet.
-    fn prepare_for(&mut self, ask: &Ask) -> Result<(), NoMemory>
+    fn prepare_for<R: Threads + Sync>(&mut self, rt: &R, ask: &Ask) -> Result<(), NoMemory>
         ghost setting: { Setting }
         requires { AreImagesBy (images_of setting) self.old.taken }
         ensures { self.new ≡ self.old }
@@ -95,7 +95,7 @@ impl<P: PatternShop> State<P> {
             return Ok(());
         };
         match ask {
-            Ask::Thes { .. } => rules.prepare(self.alloc),
+            Ask::Thes { .. } => rules.prepare(rt, self.alloc),
             _ => Ok(()),
         }
     }

@@ -15,7 +15,7 @@ ghost use Rattle.mt_thesaurus.specs.Told.{AreFirstAlike, IsSmall, IsThesaurusRep
 
 use super::alike::{first_ranked, others_of};
 use super::fresh::{placed_of, words_of};
-use super::grouped::Grouped;
+use super::grouped::{Grouped, group_both};
 use super::lines::{number_line, put_words};
 use super::placed::turned_all;
 use super::sums::{parts_of, sums_of};
@@ -48,8 +48,12 @@ impl Model for Contexts {
 }
 
 impl Contexts {
-    /// The contexts of all words that are counted. It costs by how many they are, and sorts them.
-    pub fn new(alloc: Global, triples: &Triples) -> Result<Self, NoMemory>
+    /// The contexts of all words that are counted. It costs by how many they are, and sorts them twice, side by side where they are many.
+    pub fn new<R: Threads + Sync>(
+        rt: &R,
+        alloc: Global,
+        triples: &Triples,
+    ) -> Result<Self, NoMemory>
         requires { AreWithin triples.now }
         ensures { IfOk result (AreScoresOf (frequencies_of triples.now)) }
     {
@@ -58,8 +62,7 @@ impl Contexts {
         let placed = placed_of(alloc, &numbered)?;
         let turned = turned_all(alloc, &placed)?;
         let sums = sums_of(alloc, words.len(), &placed)?;
-        let by_word = Grouped::new(alloc, placed)?;
-        let by_context = Grouped::new(alloc, turned)?;
+        let (by_word, by_context) = group_both(rt, alloc, placed, turned)?;
         Ok(Contexts {
             words,
             by_word,

@@ -13,6 +13,7 @@ pub returns : goal.returns
 returns c =
     let row = c.get-row.result in
     let word = c.get-word.result in
-    let entry : Entry = record { word = word.0.0; context = c.number_of.result; both = row.1; left = word.1; right = c.count_of.result } in
+    let pair = c.numbered_count-context.result in
+    let entry : Entry = record { word = word.0.0; context = pair.0; both = row.1; left = word.1; right = pair.1 } in
     subst (λ (n : Numbering). slice_get n.entries c.args.place ≡ Some entry) c.self.view_is
-    (pair_at_place c.self.inside.tables.now c.args.place row.0.0 row.0.1 word.0.0 word.0.1 row.1 word.1 c.number_of.result c.count_of.result c.get-row.ensures c.get-word.ensures c.number_of.ensures c.count_of.ensures.count)
+    (pair_at_place c.self.inside.tables.now c.args.place row.0.0 row.0.1 word.0.0 word.0.1 row.1 word.1 pair.0 pair.1 c.get-row.ensures c.get-word.ensures c.numbered_count-context.ensures.place c.numbered_count-context.ensures.count)
