@@ -37,6 +37,8 @@ fn add_places<L: Ledger>(
     ensures given { OnOk result (collector.new.given ≡ []) }
     ensures counted { collector.new.counted ≡ collector.old.counted }
 {
+    let (begin, end) = text.segment.text_bounds(text.number);
+    collector.make_room((end - begin) as usize)?;
     let attr = text.registry.ws_attr();
     match text.segment.base(attr) {
         None => add_base_places(text, attr, collector, steps),

@@ -93,6 +93,14 @@ impl<'a> Collector<'a> {
         self.counter.words.clear();
     }
 
+    /// Makes room for the numbers of so many places, so that those that are told are not copied again and again while others come.
+    pub fn make_room(&mut self, places: usize) -> Result<(), NoMemory>
+        ensures { self.new ≡ self.old }
+    {
+        self.numbers.reserve(places)?;
+        Ok(())
+    }
+
     /// Tells the number of the value at the next place of the text.
     pub fn add_place(&mut self, number: u32) -> Result<(), NoMemory>
         requires { number < length self.old.lexicon }
