@@ -1,7 +1,7 @@
 //! Where the tokens of a generated text come from.
 
 ghost use Rattle.std.specs.Prelude.{◌≡◌, ◌+◌, ◌*◌, ◌%◌, ◌<◌, ◌^◌};
-ghost use Rattle.mt_generate_spec.specs.Draws.{drawn, upper_bits};
+ghost use Rattle.mt_generate_spec.specs.Draws.{behind_draws, drawn, upper_bits};
 ghost use Rattle.mt_generate_spec.specs.Generated.{token_at, token_of, rank_of};
 ghost use Rattle.mt_generate.specs.Sources as spec;
 
@@ -46,6 +46,18 @@ impl Source {
         }
     }
 
+    /// The tokens of this seed from a place on. The draws before it are not made one by one.
+    pub fn at(seed: u64, place: u32) -> Self
+        ensures { result ≡ record { seed = seed; place = place } }
+    {
+        let place = u64::from(place);
+        Source {
+            seed,
+            place,
+            number: behind_draws(seed, 3 * place),
+        }
+    }
+
     /// The next token. Its draws are made beside each other, each from the number before them, so that none waits for another.
     pub fn draw(&mut self) -> Drawn
         requires { self.old.place < 2 ^ 32 }
@@ -63,6 +75,32 @@ impl Source {
             plural: upper_bits(third) % 2 == 1,
         }
     }
+}
+
+/// What a step of the generator multiplies by.
+const TIMES: u64 = 6_364_136_223_846_793_005;
+
+/// What a step of the generator adds.
+const PLUS: u64 = 1_442_695_040_888_963_407;
+
+/// The generator's number behind so many draws. Of the steps that are made at once, each is twice as long as the one before it, as the bits of the count ask
+/// (Brown 1994, *Random Number Generation with Arbitrary Strides*).
+fn behind_draws(seed: u64, draws: u64) -> u64
+    ensures { result ≡ behind_draws seed draws }
+{
+    let mut number = seed;
+    let mut times = TIMES;
+    let mut plus = PLUS;
+    let mut left = draws;
+    while left > 0 {
+        if left % 2 == 1 {
+            number = step(number, times, plus);
+        }
+        plus = step(plus, times, plus);
+        times = times.wrapping_mul(times);
+        left /= 2;
+    }
+    number
 }
 
 /// The generator's number behind one more draw.
