@@ -1,11 +1,12 @@
 -- Tokens that are told by codes, and their values.
 use Rattle.std.proofs.Common.{◌≡◌, ℕ, zero, suc, ◌+◌, ◌*◌, ◌/◌, ◌%◌, ◌==◌, ◌<◌, ◌≤◌, Bool, true, false, List, [], ◌∷◌, ◌++◌, length, map, take, get_or, set, replicate, slice_get, Some, refl, sym, ◌∙◌, ap, ap₂, subst, arith, ◌⊎◌, inl, inr}
 use Rattle.std.specs.Int.{from_bool}
-use Rattle.std.specs.List.{All, Contains}
+use Rattle.std.specs.List.{All, Contains, range_with_len}
+use Rattle.rayon.specs.Shown.{run-append}
 use Rattle.std.specs.Option.{option_map}
 use Rattle.std.proofs.lemmas.Bool.{cases_lt, cases_eq}
-use Rattle.std.proofs.lemmas.List.{map_more, length-map, length-set, length-replicate, map_push, get_or-map, get_or_default, get_or-set_same, get_or-set_other}
-use Rattle.std.proofs.lemmas.List.Elements.{All-push, All-from_get_or, Contains-append_left, Contains-append_right}
+use Rattle.std.proofs.lemmas.List.{map-append, map_more, length-map, length-set, length-replicate, map_push, get_or-map, get_or_default, get_or-set_same, get_or-set_other}
+use Rattle.std.proofs.lemmas.List.Elements.{All-append, All-push, All-from_get_or, Contains-append_left, Contains-append_right}
 use Rattle.std.proofs.lemmas.Option.{slice_get-get_or, slice_get-map}
 use Rattle.mt_text_spec.specs.Texts.{Token, value_of}
 use Rattle.mt_lexicon.specs.Joins.{renumbered}
@@ -14,7 +15,7 @@ use Rattle.mt_segment.specs.Numbered.{IsNumbered, stands_for}
 use Rattle.mt_segment.proofs.Numbered.{values_more}
 use Rattle.mt_generate_spec.specs.Generated.{token_of, token_at, tokens_from}
 use Rattle.mt_generate.proofs.Ranges.{map_range_more}
-use Rattle.mt_generate_tables.specs.Coded.{AreMarked, AreSeen, IsTableOf, StandBeside, TellsNumbers, token_coded, tokens_of, values_of}
+use Rattle.mt_generate_tables.specs.Coded.{AreDrawn, AreMarked, AreMarksOfBoth, AreSeen, IsTableOf, StandBeside, TellsNumbers, token_coded, tokens_of, values_of}
 
 -- ---- codes of tokens
 
@@ -29,12 +30,16 @@ token_back rank false one e =
     ap₂ token_of half (ap (λ (n : ℕ). n == 1) even)
 
 -- the next token of a seed
-pub one_drawn : (seed count : ℕ) (codes more : List ℕ) (token : Token) (code from place : ℕ) → tokens_of codes ≡ tokens_from seed 0 count → token_coded code ≡ token → token ≡ token_at from place → from ≡ seed → place ≡ count →
-    more ≡ codes ++ code ∷ [] → tokens_of more ≡ tokens_from seed 0 (count + 1)
-one_drawn seed count codes more token code from place all coded is same here e =
-    let last : 0 + count ≡ count = omega arith in
-    let at : token_coded code ≡ token_at seed (0 + count) = coded ∙ is ∙ ap₂ token_at same here ∙ ap (token_at seed) (sym last) in
-    ap tokens_of e ∙ map_push token_coded codes code ∙ ap₂ (λ (ts : List Token) (t : Token). ts ++ t ∷ []) all at ∙ sym (map_range_more (token_at seed) 0 count)
+pub one_drawn : (seed begin count : ℕ) (codes more : List ℕ) (token : Token) (code from place : ℕ) → tokens_of codes ≡ tokens_from seed begin count → token_coded code ≡ token → token ≡ token_at from place → from ≡ seed → place ≡ begin + count →
+    more ≡ codes ++ code ∷ [] → tokens_of more ≡ tokens_from seed begin (count + 1)
+one_drawn seed begin count codes more token code from place all coded is same here e =
+    let at : token_coded code ≡ token_at seed (begin + count) = coded ∙ is ∙ ap₂ token_at same here in
+    ap tokens_of e ∙ map_push token_coded codes code ∙ ap₂ (λ (ts : List Token) (t : Token). ts ++ t ∷ []) all at ∙ sym (map_range_more (token_at seed) begin count)
+
+-- tokens of a seed, and those behind them
+both_drawn : (seed from some more count : ℕ) (first others : List ℕ) → some + more ≡ count → tokens_of first ≡ tokens_from seed from some → tokens_of others ≡ tokens_from seed (from + some) more → tokens_of (first ++ others) ≡ tokens_from seed from count
+both_drawn seed from some more count first others all g h =
+    map-append token_coded first others ∙ ap₂ (λ (a b : List Token). a ++ b) g h ∙ sym (map-append (token_at seed) (range_with_len from some) (range_with_len (from + some) more)) ∙ ap (map (token_at seed)) (run-append from some more ∙ ap (range_with_len from) all)
 
 -- ---- marks
 
@@ -43,7 +48,7 @@ never zero code = refl
 never (suc count) zero = refl
 never (suc count) (suc code) = never count code
 
-true-false : {X : Type 0} → true ≡ false → X
+pub true-false : {X : Type 0} → true ≡ false → X
 true-false e = let wrong : ⊥ = cc in absurd wrong
 
 pub none_marked : (marks : List Bool) → marks ≡ replicate 2000 false → AreMarked 2000 [] marks
@@ -54,8 +59,18 @@ none_marked marks e = record {
 }
 
 -- a mark is set
-abbrev IsSet : List Bool → ℕ → Type 0
+abbrev pub IsSet : List Bool → ℕ → Type 0
 IsSet marks code = get_or marks code false ≡ true
+
+-- a mark that is set is one of the list
+within : (marks : List Bool) (code : ℕ) → IsSet marks code → code < length marks
+within [] code m = true-false (sym m)
+within (mark ∷ marks) zero m = omega arith
+within (mark ∷ marks) (suc code) m = omega (arith, within marks code m)
+
+below : (k place : ℕ) → k < place + 1 → (k ≡ place → ⊥) → (k < place) ⊎ (place ≤ k) → k < place
+below k place m another (inl l) = l
+below k place m another (inr l) = absurd (another (omega arith))
 
 -- a code is drawn
 pub one_marked : (codes more : List ℕ) (marks : List Bool) (code : ℕ) → AreMarked 2000 codes marks → length marks ≡ 2000 → code < 2000 → more ≡ codes ++ code ∷ [] → AreMarked 2000 more (set marks code true)
@@ -75,6 +90,75 @@ one_marked codes more marks code h long low e = rw e (record {
     found : (other : ℕ) → other < 2000 → IsSet (set marks code true) other → (other ≡ code) ⊎ (other ≡ code → ⊥) → Contains (codes ++ code ∷ []) other
     found other l m (inl same) = rw same (Contains-append_right codes (code ∷ []) code (0, omega arith, refl))
     found other l m (inr differs) = Contains-append_left codes (code ∷ []) other (h.only other l (sym (get_or-set_other marks code other true false differs) ∙ m))
+
+-- the marks of two lists of codes are those of both
+both_marked : (first others : List ℕ) (some more all : List Bool) → AreMarked 2000 first some → AreMarked 2000 others more → AreMarksOfBoth some more all → AreMarked 2000 (first ++ others) all
+both_marked first others some more all g h m = record {
+  low = All-append (λ (n : ℕ). n < 2000) first others g.low h.low;
+  all = All-append (IsSet all) first others (λ k d l. m.first (get_or first k d) (g.all k d l)) (λ k d l. m.second (get_or others k d) (h.all k d l));
+  only = λ code l set. found code l (m.only code set);
+}
+  where
+    found : (code : ℕ) → code < 2000 → IsSet some code ⊎ IsSet more code → Contains (first ++ others) code
+    found code l (inl set) = Contains-append_left first others code (g.only code l set)
+    found code l (inr set) = Contains-append_right first others code (h.only code l set)
+
+pub drawn_together : (seed from some begin more count : ℕ) (first others both : List ℕ) (marks other_marks all : List Bool) → begin ≡ from + some → some + more ≡ count → AreDrawn seed from some first marks → AreDrawn seed begin more others other_marks →
+    both ≡ first ++ others → AreMarksOfBoth marks other_marks all → AreDrawn seed from count both all
+drawn_together seed from some begin more count first others both marks other_marks all here sum g h e m = rw e (record {
+  tokens = both_drawn seed from some more count first others sum g.tokens (h.tokens ∙ ap (λ (n : ℕ). tokens_from seed n more) here);
+  marked = both_marked first others marks other_marks all g.marked h.marked m;
+  long = m.long ∙ g.long;
+})
+
+-- the marks of both, up to a place of the others
+pub record AreMarksUpTo (some others : List Bool) (place : ℕ) (all : List Bool) : Type 0 where
+  pub long : length all ≡ length some
+  pub first : (code : ℕ) → IsSet some code → IsSet all code
+  pub second : (code : ℕ) → code < place → IsSet others code → IsSet all code
+  pub only : (code : ℕ) → IsSet all code → IsSet some code ⊎ IsSet others code
+
+pub first_marks : (some others : List Bool) → AreMarksUpTo some others 0 some
+first_marks some others = record { long = refl; first = λ code m. m; second = λ code l m. absurd (omega (arith, l)); only = λ code m. inl m }
+
+pub marks_set : (some others : List Bool) (place : ℕ) (all : List Bool) → AreMarksUpTo some others place all → place < length some → IsSet others place → AreMarksUpTo some others (place + 1) (set all place true)
+marks_set some others place all h l there = record {
+  long = length-set all place true ∙ h.long;
+  first = λ code m. kept code (h.first code m) (cases_eq code place);
+  second = λ code low m. next code low m (cases_eq code place);
+  only = λ code m. only code m (cases_eq code place);
+}
+  where
+    here : IsSet (set all place true) place
+    here = get_or-set_same all place true false (omega (arith, l, h.long))
+
+    kept : (code : ℕ) → IsSet all code → (code ≡ place) ⊎ (code ≡ place → ⊥) → IsSet (set all place true) code
+    kept code m (inl same) = subst (IsSet (set all place true)) (sym same) here
+    kept code m (inr differs) = get_or-set_other all place code true false differs ∙ m
+
+    next : (code : ℕ) → code < place + 1 → IsSet others code → (code ≡ place) ⊎ (code ≡ place → ⊥) → IsSet (set all place true) code
+    next code low m (inl same) = subst (IsSet (set all place true)) (sym same) here
+    next code low m (inr differs) = get_or-set_other all place code true false differs ∙ h.second code (below code place low differs (cases_lt code place)) m
+
+    only : (code : ℕ) → IsSet (set all place true) code → (code ≡ place) ⊎ (code ≡ place → ⊥) → IsSet some code ⊎ IsSet others code
+    only code m (inl same) = inr (subst (IsSet others) (sym same) there)
+    only code m (inr differs) = h.only code (sym (get_or-set_other all place code true false differs) ∙ m)
+
+pub marks_passed : (some others : List Bool) (place : ℕ) (all : List Bool) → AreMarksUpTo some others place all → (IsSet others place → ⊥) → AreMarksUpTo some others (place + 1) all
+marks_passed some others place all h none = record {
+  long = h.long;
+  first = h.first;
+  second = λ code low m. h.second code (below code place low (λ same. none (subst (IsSet others) same m)) (cases_lt code place)) m;
+  only = h.only;
+}
+
+pub all_marks : (some others : List Bool) (place : ℕ) (all : List Bool) → AreMarksUpTo some others place all → length others ≤ place → AreMarksOfBoth some others all
+all_marks some others place all h done = record {
+  long = h.long;
+  first = h.first;
+  second = λ code m. h.second code (omega (arith, done, within others code m)) m;
+  only = h.only;
+}
 
 -- what was drawn and what is listed have the same marks
 pub are_seen : (seen drawn : List ℕ) (marks : List Bool) → AreMarked 2000 drawn marks → AreMarked 2000 seen marks → length seen ≤ 2000 → AreSeen seen drawn
@@ -140,17 +224,13 @@ one_put codes numbers table place code number h low l here is = record {
     }
     at k m (inr differs) =
         let another : k ≡ place → ⊥ = λ e. differs (ap (λ (j : ℕ). get_or codes j 0) e ∙ sym here) in
-        let b = h.at k (below k m another (cases_lt k place)) in
+        let b = h.at k (below k place m another (cases_lt k place)) in
         record {
           place = b.place;
           within = omega (arith, b.within);
           has_code = b.has_code;
           has_number = b.has_number ∙ sym (get_or-set_other table code (get_or codes k 0) number 0 differs);
         }
-      where
-        below : (k : ℕ) → k < place + 1 → (k ≡ place → ⊥) → (k < place) ⊎ (place ≤ k) → k < place
-        below k m another (inl l) = l
-        below k m another (inr l) = absurd (another (omega arith))
 
 pub tells : (column : ℕ) (codes : List ℕ) (lexicon : List (List ℕ)) (numbers table : List ℕ) → Renumbers numbers (values_of column (tokens_of codes)) lexicon → IsTableOf codes numbers (length codes) table → TellsNumbers column codes lexicon table
 tells column codes lexicon numbers table g h = record { long = h.long; at = at }

@@ -1,8 +1,8 @@
 -- Tokens that are told by codes, and what is known of each code.
-use Rattle.std.specs.Prelude.{ℕ, ◌≡◌, ◌/◌, ◌%◌, ◌<◌, ◌≤◌, Bool, true, false, ◌==◌, List, length, map, slice_get, slice_index, slice_index_or, Some}
+use Rattle.std.specs.Prelude.{ℕ, ◌≡◌, ◌/◌, ◌%◌, ◌<◌, ◌≤◌, Bool, true, false, ◌==◌, List, length, map, slice_get, slice_index, slice_index_or, Some, ◌⊎◌}
 use Rattle.std.specs.List.{All, Contains}
 use Rattle.mt_text_spec.specs.Texts.{Token, value_of}
-use Rattle.mt_generate_spec.specs.Generated.{token_of}
+use Rattle.mt_generate_spec.specs.Generated.{token_of, tokens_from}
 
 -- the token of a code, which is twice the rank of the lemma, and one more in the plural
 abbrev pub token_coded : ℕ → Token
@@ -21,6 +21,19 @@ pub record AreMarked (bound : ℕ) (codes : List ℕ) (marks : List Bool) : Type
   pub low : All (λ code. code < bound) codes
   pub all : All (λ code. slice_index_or marks code false ≡ true) codes
   pub only : (code : ℕ) → code < bound → slice_index_or marks code false ≡ true → Contains codes code
+
+-- A mark of all codes is set where it is set on one of two lists.
+pub record AreMarksOfBoth (some others all : List Bool) : Type 0 where
+  pub long : length all ≡ length some
+  pub first : (code : ℕ) → slice_index_or some code false ≡ true → slice_index_or all code false ≡ true
+  pub second : (code : ℕ) → slice_index_or others code false ≡ true → slice_index_or all code false ≡ true
+  pub only : (code : ℕ) → slice_index_or all code false ≡ true → (slice_index_or some code false ≡ true) ⊎ (slice_index_or others code false ≡ true)
+
+-- The codes are those of the tokens of a seed from a place on, so many, and of the marks of all codes theirs are set.
+pub record AreDrawn (seed from count : ℕ) (codes : List ℕ) (marks : List Bool) : Type 0 where
+  pub tokens : tokens_of codes ≡ tokens_from seed from count
+  pub marked : AreMarked 2000 codes marks
+  pub long : length marks ≡ 2000
 
 -- The codes that were seen are those that were drawn, and no more than there are.
 pub record AreSeen (seen drawn : List ℕ) : Type 0 where

@@ -1,17 +1,21 @@
 //! The tokens of a generated text, drawn.
 
-ghost use Rattle.std.specs.Prelude.{false, ◌≡◌, ◌<◌, ◌≤◌, length, replicate, IfOk};
+ghost use Rattle.std.specs.Prelude.{false, ◌≡◌, ◌+◌, ◌^◌, ◌<◌, ◌≤◌, [], ◌++◌, length, replicate, IfOk};
+ghost use Rattle.std.specs.Thread.{IsSync};
+ghost use Rattle.std.specs.Vec.{vec_capacity, vec_len};
 ghost use Rattle.mt_store_spec.specs.Lexicons.{IsLexiconOf, Renumbers};
 ghost use Rattle.mt_generate_spec.specs.Generated.{tokens_from};
-ghost use Rattle.mt_generate_tables.specs.Coded.{AreMarked, tokens_of, values_of};
+ghost use Rattle.mt_generate_tables.specs.Coded.{AreDrawn, AreMarked, AreMarksOfBoth, tokens_of, values_of};
 
 use super::coding::{ALL, code_of};
 use super::numbering::{number_values, renumber};
 use mt_base::NoMemory;
 use mt_generate::Source;
 use mt_lexicon::Lexicon;
+use rayon::{current_num_threads, join};
 use std::alloc::Global;
 use std::marker::Model;
+use std::thread::Threads;
 
 /// The tokens of a text, by the code of each. The distinct codes among them are kept in ascending order.
 #[derive(Drop)]
@@ -33,14 +37,22 @@ impl Model for Draws {
 }
 
 impl Draws {
-    /// The tokens of the seed, so many.
-    pub(crate) fn new(alloc: Global, seed: u64, tokens: u32) -> Result<Self, NoMemory>
+    /// The tokens of the seed, so many. Threads draw a part each, where they are many.
+    pub(crate) fn new<R: Threads + Sync>(
+        rt: &R,
+        alloc: Global,
+        seed: u64,
+        tokens: u32,
+    ) -> Result<Self, NoMemory>
         ensures { IfOk result (λ draws. draws ≡ tokens_from seed 0 tokens) }
     {
-        let mut marks = vec![in alloc; false; ALL]?;
-        let codes = draw(alloc, seed, tokens, marks.as_mut_slice())?;
-        let seen = marked(alloc, marks.as_slice())?;
-        Ok(Draws { codes, seen })
+        let halvings = halvings(rt, tokens);
+        let drawing = draw_beside(rt, alloc, seed, 0, tokens, tokens as usize, halvings)?;
+        let seen = marked(alloc, drawing.marks.as_slice())?;
+        Ok(Draws {
+            codes: drawing.codes,
+            seen,
+        })
     }
 
     /// How many tokens there are.
@@ -66,20 +78,122 @@ impl Draws {
     }
 }
 
-/// The codes of the tokens of the seed, so many. The mark of each of them is set.
-fn draw(alloc: Global, seed: u64, tokens: u32, marks: &mut [bool]) -> Result<Vec<u16>, NoMemory>
-    requires { marks.old ≡ replicate 2000 false }
-    ensures tokens { IfOk result (λ codes. tokens_of codes.items ≡ tokens_from seed 0 tokens) }
-    ensures marks { IfOk result (λ codes. AreMarked 2000 codes.items marks.new) }
+/// The codes of some tokens, and for each of all codes whether it is among them.
+#[derive(Drop)]
+struct Drawing {
+    codes: Vec<u16>,
+    marks: Vec<bool>,
+}
+
+/// Threads pay where they draw so many tokens: one thread takes two milliseconds for that. Fewer are drawn as soon by one.
+const MANY: u32 = 1 << 19;
+
+/// How many times to halve so many tokens: for four threads at most, since others draw faster than their parts are put together.
+fn halvings<R: Threads>(rt: &R, tokens: u32) -> usize {
+    if tokens < MANY {
+        return 0;
+    }
+    match current_num_threads(rt) {
+        0 | 1 => 0,
+        2 | 3 => 1,
+        _ => 2,
+    }
+}
+
+/// The tokens of the seed from one on, so many, with room for more. They are halved so many times, and the halves are drawn side by side.
+#[cycle(drawing)]
+fn draw_beside<R: Threads + Sync>(
+    rt: &R,
+    alloc: Global,
+    seed: u64,
+    from: u32,
+    tokens: u32,
+    room: usize,
+    halvings: usize,
+) -> Result<Drawing, NoMemory>
+    requires fits { from + tokens < 2 ^ 32 }
+    requires room { tokens ≤ room }
+    ensures { IfOk result (λ drawing. AreDrawn seed from tokens drawing.codes.items drawing.marks.items) }
 {
-    let mut codes = Vec::with_capacity(alloc, tokens as usize)?;
-    let mut source = Source::new(seed);
+    if halvings == 0 {
+        return draw_part(alloc, seed, from, tokens, room);
+    }
+    let half = tokens / 2;
+    let one = move || -> Result<Drawing, NoMemory>
+        requires { IsSync R.row × (0 < halvings) × (from + half < 2 ^ 32) × (half ≤ room) }
+        ensures { IfOk result (λ drawing. AreDrawn seed from half drawing.codes.items drawing.marks.items) }
+    { draw_beside(rt, alloc, seed, from, half, room, halvings - 1) };
+    let (begin, count) = (from + half, tokens - half);
+    let other = move || -> Result<Drawing, NoMemory>
+        requires { IsSync R.row × (0 < halvings) × (begin + count < 2 ^ 32) }
+        ensures { IfOk result (λ drawing. AreDrawn seed begin count drawing.codes.items drawing.marks.items) }
+    { draw_beside(rt, alloc, seed, begin, count, count as usize, halvings - 1) };
+    let (one, other) = join(rt, one, other);
+    put_together(one?, other?)
+}
+
+/// Tokens, and others behind them.
+fn put_together(first: Drawing, others: Drawing) -> Result<Drawing, NoMemory>
+    requires { length others.marks.items ≡ length first.marks.items }
+    ensures { IfOk result (λ both. (both.codes.items ≡ first.codes.items ++ others.codes.items) × AreMarksOfBoth first.marks.items others.marks.items both.marks.items) }
+{
+    let Drawing {
+        mut codes,
+        mut marks,
+    } = first;
+    let mut more = others.codes;
+    codes.append(&mut more)?;
+    mark_all(marks.as_mut_slice(), others.marks.as_slice());
+    Ok(Drawing { codes, marks })
+}
+
+/// Sets the marks that are set on another list.
+fn mark_all(marks: &mut [bool], others: &[bool])
+    requires { length others.now ≡ length marks.old }
+    ensures { AreMarksOfBoth marks.old others.now marks.new }
+{
+    for place in 0..others.len() {
+        if others[place] {
+            marks[place] = true;
+        }
+    }
+}
+
+/// The tokens of the seed from one on, so many, with room for more.
+fn draw_part(
+    alloc: Global,
+    seed: u64,
+    from: u32,
+    tokens: u32,
+    room: usize,
+) -> Result<Drawing, NoMemory>
+    requires fits { from + tokens < 2 ^ 32 }
+    requires room { tokens ≤ room }
+    ensures { IfOk result (λ drawing. AreDrawn seed from tokens drawing.codes.items drawing.marks.items) }
+{
+    let mut marks = vec![in alloc; false; ALL]?;
+    let mut codes = Vec::with_capacity(alloc, room)?;
+    draw(seed, from, tokens, &mut codes, marks.as_mut_slice());
+    Ok(Drawing { codes, marks })
+}
+
+/// Adds the codes of the tokens of the seed from one on, so many, for which there is room. The mark of each of them is set.
+fn draw(seed: u64, from: u32, tokens: u32, codes: &mut Vec<u16>, marks: &mut [bool])
+    requires fits { from + tokens < 2 ^ 32 }
+    requires none { codes.old.items ≡ [] }
+    requires empty { vec_len codes.old ≡ 0 }
+    requires room { tokens ≤ vec_capacity codes.old }
+    requires marks { marks.old ≡ replicate 2000 false }
+    ensures tokens { tokens_of codes.new.items ≡ tokens_from seed from tokens }
+    ensures marks { AreMarked 2000 codes.new.items marks.new }
+    ensures long { length marks.new ≡ 2000 }
+{
+    let mut source = Source::at(seed, from);
     for _ in 0..tokens {
         let code = code_of(source.draw());
         marks[code as usize] = true;
         codes.push_reserved(code);
     }
-    Ok(codes)
 }
 
 /// The codes whose marks are set, in ascending order.

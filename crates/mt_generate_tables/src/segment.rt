@@ -12,9 +12,10 @@ ghost use Rattle.mt_generate_tables.specs.Joined.{AreInstances, tables_of};
 use super::drawing::Draws;
 use super::instances::instances;
 use mt_base::{List, NoMemory, Registry, StructSpan, Value};
+use mt_inverting::postings_by_runs;
 use mt_lexicon::Lexicon;
 use mt_postings::Postings;
-use mt_segment::{Column, Lists, Segment, postings_beside};
+use mt_segment::{Column, Lists, Segment};
 use rayon::{current_num_threads, join};
 use std::alloc::Global;
 use std::marker::Model;
@@ -76,14 +77,15 @@ fn drawn<R: Threads + Sync>(
 {
     if (tokens as usize) < MANY || current_num_threads(rt) < 2 {
         let structs = instances(alloc, name, tokens)?;
-        return Ok((Draws::new(alloc, seed, tokens)?, structs));
+        return Ok((Draws::new(rt, alloc, seed, tokens)?, structs));
     }
     let structs = move || -> Result<Lists<StructSpan>, NoMemory>
         ensures { IfOk result (AreInstances name.entry.now tokens) }
     { instances(alloc, name, tokens) };
     let draws = move || -> Result<Draws, NoMemory>
+        requires { IsSync R.row }
         ensures { IfOk result (λ draws. draws ≡ tokens_from seed 0 tokens) }
-    { Draws::new(alloc, seed, tokens) };
+    { Draws::new(rt, alloc, seed, tokens) };
     let (structs, draws) = join(rt, structs, draws);
     Ok((draws?, structs?))
 }
@@ -153,7 +155,7 @@ fn tables<R: Threads + Sync>(
     ensures { IfOk result (λ tables. AreBaseTables (values_of column draws.now) tables) }
 {
     let (lexicon, numbers) = draws.number(alloc, column)?;
-    let postings = postings_beside(rt, alloc, numbers.as_slice(), lexicon.len() as usize)?;
+    let postings = postings_by_runs(rt, alloc, numbers.as_slice(), lexicon.len() as usize)?;
     Ok(ColumnTables {
         lexicon,
         column: Column::new(List::from_vec(numbers)),

@@ -6,13 +6,13 @@ use Rattle.mt_generate_tables.proofs.drawing.draw.Goals as goal
 
 pub loop-init : goal.loop-init
 loop-init c = record {
-  seed = ap (λ s. s.seed) c.new-source.ensures;
-  place = ap (λ s. s.place) c.new-source.ensures;
-  room = c.in_ok-codes.ensures.exact;
-  count = c.in_ok-codes.ensures.len;
-  drawn = ap tokens_of c.in_ok-codes.ensures.items;
-  long = ap length c.requires ∙ length-replicate {A = Bool} 2000 false;
-  marked = rw c.in_ok-codes.ensures.items (none_marked c.args.marks.now c.requires);
+  seed = ap (λ s. s.seed) c.at-source.ensures;
+  place = omega (arith, ap (λ s. s.place) c.at-source.ensures);
+  room = c.requires.room;
+  count = c.requires.empty;
+  drawn = ap tokens_of c.requires.none;
+  long = ap length c.requires.marks ∙ length-replicate {A = Bool} 2000 false;
+  marked = rw c.requires.none (none_marked c.args.marks.now c.requires.marks);
 }
 
 pub loop-preserved : goal.loop-preserved
@@ -20,10 +20,10 @@ loop-preserved c =
     let inv = c.loop.invariant in
     record {
       seed = ap (λ s. s.seed) c.draw.ensures.next ∙ inv.seed;
-      place = ap (λ s. s.place) c.draw.ensures.next ∙ ap (λ n. n + 1) inv.place;
-      room = c.push_reserved.ensures.capacity ∙ inv.room;
+      place = omega (arith, ap (λ s. s.place) c.draw.ensures.next, inv.place);
+      room = omega (arith, c.push_reserved.ensures.capacity, inv.room);
       count = c.push_reserved.ensures.len ∙ ap (λ n. n + 1) inv.count;
-      drawn = one_drawn c.args.seed c.loop.counter c.loop.codes.items c.push_reserved.new.self.items _ c.code_of-code.result _ _ inv.drawn c.code_of-code.ensures.token c.draw.ensures.token inv.seed inv.place c.push_reserved.ensures.items;
+      drawn = one_drawn c.args.seed c.args.from c.loop.counter c.loop.codes.items c.push_reserved.new.self.items _ c.code_of-code.result _ _ inv.drawn c.code_of-code.ensures.token c.draw.ensures.token inv.seed inv.place c.push_reserved.ensures.items;
       long = length-set c.loop.marks c.code_of-code.result true ∙ inv.long;
       marked = one_marked c.loop.codes.items c.push_reserved.new.self.items c.loop.marks c.code_of-code.result inv.marked inv.long c.code_of-code.ensures.low c.push_reserved.ensures.items;
     }

@@ -5,8 +5,8 @@ use Rattle.mt_segment.proofs.Valued.{base_made, numbers_low}
 use Rattle.mt_generate_tables.specs.Coded.{values_of}
 use Rattle.mt_generate_tables.proofs.segment.tables.Goals as goal
 
-pub postings_beside-requires-clause-numbers : goal.postings_beside-requires-clause-numbers
-postings_beside-requires-clause-numbers g c κs within = numbers_low c.in_ok-lexicon.numbers.items c.as_slice.result.now _ c.in_ok-lexicon.lexicon c.len.result c.in_ok-lexicon.ensures.numbers c.as_slice.ensures.value c.len.ensures.number
+pub postings_by_runs-requires-clause-numbers : goal.postings_by_runs-requires-clause-numbers
+postings_by_runs-requires-clause-numbers g c κs within = numbers_low c.in_ok-lexicon.numbers.items c.as_slice.result.now _ c.in_ok-lexicon.lexicon c.len.result c.in_ok-lexicon.ensures.numbers c.as_slice.ensures.value c.len.ensures.number
 
 pub returns : goal.returns
 returns g c =
