@@ -8,12 +8,15 @@ ghost use Rattle.mt_segment_spec.specs.Tables.{ArePlacesOf};
 ghost use Rattle.mt_inverting.specs.Blocks.{AreBlocksOf, IsBlockOf, run};
 
 use super::block::{Block, RUN};
-use super::joined::joined;
+use super::joining::joined;
 use mt_base::{List, NoMemory};
 use rayon::{current_num_threads, join};
 use std::alloc::Global;
 use std::marker::Model;
 use std::thread::Threads;
+
+/// A list takes as long to begin and to end as so many places take in it.
+const LIST: usize = 512;
 
 /// The blocks of all runs of a column whose numbers are below a count.
 #[derive(Drop)]
@@ -60,14 +63,14 @@ impl<'a> Blocks<'a> {
         self.column.len()
     }
 
-    /// A number below which about half of all places stand, as far as the first run tells.
+    /// A number below which the lists take about half of the time, as far as the first run tells.
     pub(crate) fn middle(&self) -> usize
         ensures { result ≤ self.now.count }
     {
         if self.blocks.is_empty() {
             return 0;
         }
-        self.blocks.get(0).middle()
+        self.blocks.get(0).middle(LIST / self.blocks.len())
     }
 
     /// Lists the places of a number, in the place of what was listed.

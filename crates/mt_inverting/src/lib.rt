@@ -5,7 +5,8 @@
 
 mod block;
 mod blocks;
-mod joined;
+mod joining;
 mod lists;
 
+pub use joining::joined;
 pub use lists::postings_by_runs;

@@ -7,7 +7,7 @@ ghost use Rattle.mt_segment.specs.Parts.{AreInverted};
 ghost use Rattle.mt_inverting.specs.Blocks.{AreListsOf};
 
 use super::blocks::Blocks;
-use super::joined::joined;
+use super::joining::joined;
 use mt_base::{List, NoMemory};
 use mt_postings::Postings;
 use rayon::{current_num_threads, join};
@@ -17,8 +17,8 @@ use std::thread::Threads;
 /// To make the lists of so many places takes far longer than starting a thread does.
 const MANY: usize = 1 << 16;
 
-/// For each number below `count`, the places at which it stands in a column. Where the column is long, two threads sort the places, and two make the lists, of numbers that
-/// have about as many places: so it is meant for columns of few numbers, each of which stands in most runs of 65,536 places.
+/// For each number below `count`, the places at which it stands in a column. Where the column is long, two threads sort the places, and two make the lists, each those that
+/// take about half of the time. It is meant for columns of few numbers, each of which stands in most runs of 65,536 places.
 pub fn postings_by_runs<R: Threads + Sync>(
     rt: &R,
     alloc: Global,
