@@ -1,11 +1,12 @@
 -- Tokens that are told by codes, and their values.
-use Rattle.std.proofs.Common.{◌≡◌, ℕ, zero, suc, ◌+◌, ◌*◌, ◌/◌, ◌%◌, ◌==◌, ◌<◌, ◌≤◌, Bool, true, false, List, [], ◌∷◌, ◌++◌, length, map, take, get_or, set, replicate, slice_get, Some, refl, sym, ◌∙◌, ap, ap₂, subst, arith, ◌⊎◌, inl, inr}
+use Rattle.std.proofs.Common.{◌≡◌, ℕ, zero, suc, ◌+◌, ◌*◌, ◌/◌, ◌%◌, ◌==◌, ◌<◌, ◌≤◌, Bool, true, false, List, [], ◌∷◌, ◌++◌, length, map, take, get_or, set, replicate, slice_get, Some, refl, sym, ◌∙◌, ap, ap₂, subst, arith, append_assoc, append-nil, length-append, ◌⊎◌, inl, inr}
 use Rattle.std.specs.Int.{from_bool}
 use Rattle.std.specs.List.{All, Contains, range_with_len}
 use Rattle.rayon.specs.Shown.{run-append}
 use Rattle.std.specs.Option.{option_map}
 use Rattle.std.proofs.lemmas.Bool.{cases_lt, cases_eq}
-use Rattle.std.proofs.lemmas.List.{map-append, map_more, length-map, length-set, length-replicate, map_push, get_or-map, get_or_default, get_or-set_same, get_or-set_other}
+use Rattle.std.proofs.lemmas.List.{map-append, map_more, length-map, length-set, length-replicate, map_push, get_or-map, get_or_default, get_or-set_same, get_or-set_other, get_or_append_left, get_or-append-add, take_more}
+use Rattle.std.proofs.lemmas.List.Concat.{flat_map-append}
 use Rattle.std.proofs.lemmas.List.Elements.{All-append, All-push, All-from_get_or, Contains-append_left, Contains-append_right}
 use Rattle.std.proofs.lemmas.Option.{slice_get-get_or, slice_get-map}
 use Rattle.mt_text_spec.specs.Texts.{Token, value_of}
@@ -15,7 +16,7 @@ use Rattle.mt_segment.specs.Numbered.{IsNumbered, stands_for}
 use Rattle.mt_segment.proofs.Numbered.{values_more}
 use Rattle.mt_generate_spec.specs.Generated.{token_of, token_at, tokens_from}
 use Rattle.mt_generate.proofs.Ranges.{map_range_more}
-use Rattle.mt_generate_tables.specs.Coded.{AreDrawn, AreMarked, AreMarksOfBoth, AreSeen, IsTableOf, StandBeside, TellsNumbers, token_coded, tokens_of, values_of}
+use Rattle.mt_generate_tables.specs.Coded.{AreDrawn, AreMarked, AreMarksOfBoth, AreSeen, IsTableOf, StandBeside, TellsNumbers, all_codes, token_coded, tokens_of, values_of}
 
 -- ---- codes of tokens
 
@@ -40,6 +41,31 @@ one_drawn seed begin count codes more token code from place all coded is same he
 both_drawn : (seed from some more count : ℕ) (first others : List ℕ) → some + more ≡ count → tokens_of first ≡ tokens_from seed from some → tokens_of others ≡ tokens_from seed (from + some) more → tokens_of (first ++ others) ≡ tokens_from seed from count
 both_drawn seed from some more count first others all g h =
     map-append token_coded first others ∙ ap₂ (λ (a b : List Token). a ++ b) g h ∙ sym (map-append (token_at seed) (range_with_len from some) (range_with_len (from + some) more)) ∙ ap (map (token_at seed)) (run-append from some more ∙ ap (range_with_len from) all)
+
+-- the codes of parts, and of others behind them
+pub codes_of_both : (first others both : List (List ℕ)) → both ≡ first ++ others → all_codes both ≡ all_codes first ++ all_codes others
+codes_of_both first others both e = ap all_codes e ∙ flat_map-append (λ part. part) first others
+
+-- the codes of one more part go through a table
+pub one_part_more : (table : List ℕ) (parts : List (List ℕ)) (k : ℕ) (part old new all : List ℕ) → k < length parts → part ≡ get_or parts k part → old ≡ all ++ renumbered table (all_codes (take k parts)) → new ≡ old ++ renumbered table part →
+    new ≡ all ++ renumbered table (all_codes (take (k + 1) parts))
+one_part_more table parts k part old new all l is h e =
+    let whole : all_codes (take (k + 1) parts) ≡ all_codes (take k parts) ++ part =
+    ap all_codes (take_more parts k part l) ∙ flat_map-append (λ p. p) (take k parts) (get_or parts k part ∷ []) ∙ ap (λ p. all_codes (take k parts) ++ p) (append-nil (get_or parts k part) ∙ sym is) in
+    e ∙ ap (λ ns. ns ++ renumbered table part) h ∙ append_assoc all (renumbered table (all_codes (take k parts))) (renumbered table part)
+    ∙ ap (λ ns. all ++ ns) (sym (map-append (λ n. get_or table n 0) (all_codes (take k parts)) part)) ∙ ap (λ cs. all ++ renumbered table cs) (sym whole)
+
+of_left : (P : ℕ → Type 0) (xs ys : List ℕ) → All P (xs ++ ys) → All P xs
+of_left P xs ys h = λ j d m. subst P (get_or_append_left xs ys d j m) (h j d (omega (arith, length-append xs ys, m)))
+
+of_right : (P : ℕ → Type 0) (xs ys : List ℕ) → All P (xs ++ ys) → All P ys
+of_right P xs ys h = λ j d m. subst P (get_or-append-add xs ys j d) (h (length xs + j) d (omega (arith, length-append xs ys, m)))
+
+-- what is so of all codes is so of those of a part
+pub of_part : (P : ℕ → Type 0) (parts : List (List ℕ)) (k : ℕ) (d : List ℕ) → All P (all_codes parts) → k < length parts → All P (get_or parts k d)
+of_part P [] k d h l = absurd (omega (arith, l))
+of_part P (part ∷ parts) zero d h l = of_left P part (all_codes parts) h
+of_part P (part ∷ parts) (suc k) d h l = of_part P parts k d (of_right P part (all_codes parts) h) (omega (arith, l))
 
 -- ---- marks
 

@@ -7,7 +7,7 @@ use Rattle.mt_text_spec.specs.Registries.{Registry, standard_registry}
 use Rattle.mt_text_spec.specs.Texts.{StructSpan, Text, Token, ValidCorpus, ValidText}
 use Rattle.mt_generate_spec.specs.Generated.{document, generated_text, sentence, sentence_count, token_at, tokens_from}
 use Rattle.mt_segment_spec.specs.Tables.{AttrTables, AreBaseTables, AreTablesOf, HaveParts, attr_at, attr_values, instances_of, is_of_kind, tables_at}
-use Rattle.mt_generate_tables.specs.Joined.{tables_of}
+use Rattle.mt_generate_tables.specs.Joined.{AreColumnTables, tables_of}
 use Rattle.mt_generate_tables.specs.Coded.{values_of}
 
 -- ---- instances of one kind
@@ -55,10 +55,10 @@ valid_alone registry text h = record {
     only (suc k) d l = absurd (omega (arith, l))
 
 module _ (images : List ℕ → List ℕ → List ℕ) (name : List ℕ) (seed tokens : ℕ) (word tag lemma : AttrTables) (texts : List (List ℕ × ℕ)) (structs : List (List StructSpan)) where
-  are_its : texts ≡ (name, tokens) ∷ [] → structs ≡ (document name tokens ∷ []) ∷ map (sentence tokens) (range_with_len 0 (sentence_count tokens)) ∷ [] ∷ [] →
-      AreBaseTables (values_of 0 (tokens_from seed 0 tokens)) word → AreBaseTables (values_of 1 (tokens_from seed 0 tokens)) tag → AreBaseTables (values_of 2 (tokens_from seed 0 tokens)) lemma →
+  pub are_its : texts ≡ (name, tokens) ∷ [] → structs ≡ (document name tokens ∷ []) ∷ map (sentence tokens) (range_with_len 0 (sentence_count tokens)) ∷ [] ∷ [] →
+      AreColumnTables (tokens_from seed 0 tokens) word tag lemma →
       AreTablesOf images standard_registry (generated_text name seed tokens ∷ []) (tables_of texts structs word tag lemma)
-  are_its heads spans is_word is_tag is_lemma = record {
+  are_its heads spans is = record {
     texts = heads ∙ ap (λ (n : ℕ). (name, n) ∷ []) (sym (length-map-range_with_len (token_at seed) 0 tokens));
     attr_count = refl;
     bases = bases;
@@ -71,9 +71,9 @@ module _ (images : List ℕ → List ℕ → List ℕ) (name : List ℕ) (seed t
       all = sym (append-nil (tokens_from seed 0 tokens))
 
       bases : (number : ℕ) → number < 3 → (attr_at standard_registry number).base ≡ None → AreBaseTables (attr_values images standard_registry (generated_text name seed tokens ∷ []) number) (tables_at (word ∷ tag ∷ lemma ∷ []) number)
-      bases zero l e = subst (λ (ts : List Token). AreBaseTables (values_of 0 ts) word) all is_word
-      bases (suc zero) l e = subst (λ (ts : List Token). AreBaseTables (values_of 1 ts) tag) all is_tag
-      bases (suc (suc zero)) l e = subst (λ (ts : List Token). AreBaseTables (values_of 2 ts) lemma) all is_lemma
+      bases zero l e = subst (λ (ts : List Token). AreBaseTables (values_of 0 ts) word) all is.words
+      bases (suc zero) l e = subst (λ (ts : List Token). AreBaseTables (values_of 1 ts) tag) all is.tags
+      bases (suc (suc zero)) l e = subst (λ (ts : List Token). AreBaseTables (values_of 2 ts) lemma) all is.lemmas
       bases (suc (suc (suc number))) l e = absurd (omega (arith, l))
 
       unmapped : (number base : ℕ) → number < 3 → (attr_at standard_registry number).base ≡ Some base → ⊥
@@ -90,9 +90,3 @@ module _ (images : List ℕ → List ℕ → List ℕ) (name : List ℕ) (seed t
       kinds (suc zero) l = at 1 ∙ ap (λ (spans : List StructSpan). spans ∷ []) (sym (only_sentences tokens (range_with_len 0 (sentence_count tokens))))
       kinds (suc (suc zero)) l = at 2 ∙ ap (λ (spans : List StructSpan). spans ∷ []) (sym (no_glue tokens (range_with_len 0 (sentence_count tokens))))
       kinds (suc (suc (suc kind))) l = absurd (omega (arith, l))
-
-  -- the tables of tokens that are those of the seed
-  pub are_of_drawn : (drawn : List Token) → drawn ≡ tokens_from seed 0 tokens → texts ≡ (name, tokens) ∷ [] → structs ≡ (document name tokens ∷ []) ∷ map (sentence tokens) (range_with_len 0 (sentence_count tokens)) ∷ [] ∷ [] →
-      AreBaseTables (values_of 0 drawn) word → AreBaseTables (values_of 1 drawn) tag → AreBaseTables (values_of 2 drawn) lemma → AreTablesOf images standard_registry (generated_text name seed tokens ∷ []) (tables_of texts structs word tag lemma)
-  are_of_drawn drawn e heads spans is_word is_tag is_lemma =
-      are_its heads spans (subst (λ (ts : List Token). AreBaseTables (values_of 0 ts) word) e is_word) (subst (λ (ts : List Token). AreBaseTables (values_of 1 ts) tag) e is_tag) (subst (λ (ts : List Token). AreBaseTables (values_of 2 ts) lemma) e is_lemma)

@@ -1,6 +1,6 @@
 -- Tokens that are told by codes, and what is known of each code.
 use Rattle.std.specs.Prelude.{ℕ, ◌≡◌, ◌/◌, ◌%◌, ◌<◌, ◌≤◌, Bool, true, false, ◌==◌, List, length, map, slice_get, slice_index, slice_index_or, Some, ◌⊎◌}
-use Rattle.std.specs.List.{All, Contains}
+use Rattle.std.specs.List.{All, Contains, flat_map}
 use Rattle.mt_text_spec.specs.Texts.{Token, value_of}
 use Rattle.mt_generate_spec.specs.Generated.{token_of, tokens_from}
 
@@ -11,6 +11,10 @@ token_coded code = token_of (code / 2) (code % 2 == 1)
 -- the tokens of codes
 abbrev pub tokens_of : List ℕ → List Token
 tokens_of codes = map token_coded codes
+
+-- the codes of parts that follow each other
+abbrev pub all_codes : List (List ℕ) → List ℕ
+all_codes parts = flat_map (λ part. part) parts
 
 -- the values of tokens in a column
 abbrev pub values_of : ℕ → List Token → List (List ℕ)

@@ -1,39 +1,66 @@
 //! The tokens of a generated text, drawn.
 
-ghost use Rattle.std.specs.Prelude.{false, ◌≡◌, ◌+◌, ◌^◌, ◌<◌, ◌≤◌, [], ◌++◌, length, replicate, IfOk};
+ghost use Rattle.std.specs.Prelude.{false, ◌≡◌, ◌+◌, ◌^◌, ◌<◌, ◌≤◌, [], ◌++◌, length, replicate, IfOk, OnOk};
+ghost use Rattle.std.specs.List.{All};
 ghost use Rattle.std.specs.Thread.{IsSync};
 ghost use Rattle.std.specs.Vec.{vec_capacity, vec_len};
+ghost use Rattle.mt_lexicon.specs.Joins.{renumbered};
 ghost use Rattle.mt_store_spec.specs.Lexicons.{IsLexiconOf, Renumbers};
 ghost use Rattle.mt_generate_spec.specs.Generated.{tokens_from};
-ghost use Rattle.mt_generate_tables.specs.Coded.{AreDrawn, AreMarked, AreMarksOfBoth, tokens_of, values_of};
+ghost use Rattle.mt_generate_tables.specs.Coded.{AreDrawn, AreMarked, AreMarksOfBoth, all_codes, tokens_of, values_of};
 
 use super::coding::{ALL, code_of};
-use super::numbering::{number_values, renumber};
-use mt_base::NoMemory;
+use super::numbering::{number_values, push_renumbered};
+use mt_base::{List, NoMemory};
 use mt_generate::Source;
+use mt_inverting::joined;
 use mt_lexicon::Lexicon;
 use rayon::{current_num_threads, join};
 use std::alloc::Global;
 use std::marker::Model;
 use std::thread::Threads;
 
-/// The tokens of a text, by the code of each. The distinct codes among them are kept in ascending order.
+/// The codes of tokens that follow each other, seen as their list.
+#[derive(Drop)]
+pub(crate) struct Part {
+    codes: Vec<u16>,
+}
+
+impl Model for Part {
+    ghost use Rattle.std.specs.Prelude.{ℕ, List};
+
+    ghost Value = { List ℕ };
+
+    ghost view = { λ p. p.codes.items };
+}
+
+impl Part {
+    /// The codes.
+    pub(crate) fn as_slice(&self) -> &[u16]
+        ensures { result.now ≡ self.now }
+    {
+        self.codes.as_slice()
+    }
+}
+
+/// The tokens of a text, by the code of each, in parts that were drawn side by side. The distinct codes among them are kept in ascending order.
 #[derive(Drop)]
 pub(crate) struct Draws {
-    codes: Vec<u16>,
+    tokens: u32,
+    parts: List<Part>,
     seen: Vec<u16>,
 }
 
 impl Model for Draws {
-    ghost use Rattle.std.specs.Prelude.{List};
+    ghost use Rattle.std.specs.Prelude.{List as Items};
     ghost use Rattle.mt_text_spec.specs.Texts.{Token};
-    ghost use Rattle.mt_generate_tables.specs.Coded.{AreSeen, tokens_of};
+    ghost use Rattle.mt_generate_tables.specs.Coded.{AreSeen, all_codes, tokens_of};
 
-    ghost Value = { List Token };
+    ghost Value = { Items Token };
 
-    ghost view = { λ d. tokens_of d.codes.items };
+    ghost view = { λ d. tokens_of (all_codes d.parts) };
 
-    ghost invariant = { λ d. AreSeen d.seen.items d.codes.items };
+    ghost invariant = { λ d. AreSeen d.seen.items (all_codes d.parts) };
 }
 
 impl Draws {
@@ -47,19 +74,13 @@ impl Draws {
         ensures { IfOk result (λ draws. draws ≡ tokens_from seed 0 tokens) }
     {
         let halvings = halvings(rt, tokens);
-        let drawing = draw_beside(rt, alloc, seed, 0, tokens, tokens as usize, halvings)?;
+        let drawing = draw_beside(rt, alloc, seed, 0, tokens, halvings)?;
         let seen = marked(alloc, drawing.marks.as_slice())?;
         Ok(Draws {
-            codes: drawing.codes,
+            tokens,
+            parts: drawing.parts,
             seen,
         })
-    }
-
-    /// How many tokens there are.
-    pub(crate) fn len(&self) -> usize
-        ensures { result ≡ length self.now }
-    {
-        self.codes.len()
     }
 
     /// The lexicon of the values that the tokens have in a column, and the number there of each token's value.
@@ -73,15 +94,27 @@ impl Draws {
         ensures numbers { IfOk result (λ r. Renumbers r.1.items (values_of column self.now) r.0) }
     {
         let (lexicon, table) = number_values(alloc, self.seen.as_slice(), column)?;
-        let numbers = renumber(alloc, self.codes.as_slice(), table.as_slice())?;
+        let mut numbers = Vec::with_capacity(alloc, self.tokens as usize)?;
+        push_parts(&mut numbers, &self.parts, table.as_slice())?;
         Ok((lexicon, numbers))
     }
 }
 
-/// The codes of some tokens, and for each of all codes whether it is among them.
+/// Adds for each code of some parts what a table has in its place.
+fn push_parts(numbers: &mut Vec<u32>, parts: &List<Part>, table: &[u32]) -> Result<(), NoMemory>
+    requires { All (λ code. code < length table.now) (all_codes parts.now) }
+    ensures { OnOk result (numbers.new.items ≡ numbers.old.items ++ renumbered table.now (all_codes parts.now)) }
+{
+    for k in 0..parts.len() {
+        push_renumbered(numbers, parts.get(k).as_slice(), table)?;
+    }
+    Ok(())
+}
+
+/// The codes of some tokens, in parts, and for each of all codes whether it is among them.
 #[derive(Drop)]
 struct Drawing {
-    codes: Vec<u16>,
+    parts: List<Part>,
     marks: Vec<bool>,
 }
 
@@ -100,7 +133,7 @@ fn halvings<R: Threads>(rt: &R, tokens: u32) -> usize {
     }
 }
 
-/// The tokens of the seed from one on, so many, with room for more. They are halved so many times, and the halves are drawn side by side.
+/// The tokens of the seed from one on, so many. They are halved so many times, and the halves are drawn side by side.
 #[cycle(drawing)]
 fn draw_beside<R: Threads + Sync>(
     rt: &R,
@@ -108,26 +141,24 @@ fn draw_beside<R: Threads + Sync>(
     seed: u64,
     from: u32,
     tokens: u32,
-    room: usize,
     halvings: usize,
 ) -> Result<Drawing, NoMemory>
-    requires fits { from + tokens < 2 ^ 32 }
-    requires room { tokens ≤ room }
-    ensures { IfOk result (λ drawing. AreDrawn seed from tokens drawing.codes.items drawing.marks.items) }
+    requires { from + tokens < 2 ^ 32 }
+    ensures { IfOk result (λ drawing. AreDrawn seed from tokens (all_codes drawing.parts) drawing.marks.items) }
 {
     if halvings == 0 {
-        return draw_part(alloc, seed, from, tokens, room);
+        return draw_part(alloc, seed, from, tokens);
     }
     let half = tokens / 2;
     let one = move || -> Result<Drawing, NoMemory>
-        requires { IsSync R.row × (0 < halvings) × (from + half < 2 ^ 32) × (half ≤ room) }
-        ensures { IfOk result (λ drawing. AreDrawn seed from half drawing.codes.items drawing.marks.items) }
-    { draw_beside(rt, alloc, seed, from, half, room, halvings - 1) };
+        requires { IsSync R.row × (0 < halvings) × (from + half < 2 ^ 32) }
+        ensures { IfOk result (λ drawing. AreDrawn seed from half (all_codes drawing.parts) drawing.marks.items) }
+    { draw_beside(rt, alloc, seed, from, half, halvings - 1) };
     let (begin, count) = (from + half, tokens - half);
     let other = move || -> Result<Drawing, NoMemory>
         requires { IsSync R.row × (0 < halvings) × (begin + count < 2 ^ 32) }
-        ensures { IfOk result (λ drawing. AreDrawn seed begin count drawing.codes.items drawing.marks.items) }
-    { draw_beside(rt, alloc, seed, begin, count, count as usize, halvings - 1) };
+        ensures { IfOk result (λ drawing. AreDrawn seed begin count (all_codes drawing.parts) drawing.marks.items) }
+    { draw_beside(rt, alloc, seed, begin, count, halvings - 1) };
     let (one, other) = join(rt, one, other);
     put_together(one?, other?)
 }
@@ -135,16 +166,12 @@ fn draw_beside<R: Threads + Sync>(
 /// Tokens, and others behind them.
 fn put_together(first: Drawing, others: Drawing) -> Result<Drawing, NoMemory>
     requires { length others.marks.items ≡ length first.marks.items }
-    ensures { IfOk result (λ both. (both.codes.items ≡ first.codes.items ++ others.codes.items) × AreMarksOfBoth first.marks.items others.marks.items both.marks.items) }
+    ensures { IfOk result (λ both. (both.parts ≡ first.parts ++ others.parts) × AreMarksOfBoth first.marks.items others.marks.items both.marks.items) }
 {
-    let Drawing {
-        mut codes,
-        mut marks,
-    } = first;
-    let mut more = others.codes;
-    codes.append(&mut more)?;
+    let mut marks = first.marks;
     mark_all(marks.as_mut_slice(), others.marks.as_slice());
-    Ok(Drawing { codes, marks })
+    let parts = joined(first.parts, others.parts)?;
+    Ok(Drawing { parts, marks })
 }
 
 /// Sets the marks that are set on another list.
@@ -159,22 +186,17 @@ fn mark_all(marks: &mut [bool], others: &[bool])
     }
 }
 
-/// The tokens of the seed from one on, so many, with room for more.
-fn draw_part(
-    alloc: Global,
-    seed: u64,
-    from: u32,
-    tokens: u32,
-    room: usize,
-) -> Result<Drawing, NoMemory>
-    requires fits { from + tokens < 2 ^ 32 }
-    requires room { tokens ≤ room }
-    ensures { IfOk result (λ drawing. AreDrawn seed from tokens drawing.codes.items drawing.marks.items) }
+/// The tokens of the seed from one on, so many, in one part.
+fn draw_part(alloc: Global, seed: u64, from: u32, tokens: u32) -> Result<Drawing, NoMemory>
+    requires { from + tokens < 2 ^ 32 }
+    ensures { IfOk result (λ drawing. AreDrawn seed from tokens (all_codes drawing.parts) drawing.marks.items) }
 {
     let mut marks = vec![in alloc; false; ALL]?;
-    let mut codes = Vec::with_capacity(alloc, room)?;
+    let mut codes = Vec::with_capacity(alloc, tokens as usize)?;
     draw(seed, from, tokens, &mut codes, marks.as_mut_slice());
-    Ok(Drawing { codes, marks })
+    let mut parts = List::with_capacity(alloc, 1)?;
+    parts.push(Part { codes })?;
+    Ok(Drawing { parts, marks })
 }
 
 /// Adds the codes of the tokens of the seed from one on, so many, for which there is room. The mark of each of them is set.

@@ -1,6 +1,6 @@
 //! The values of the tokens of codes, numbered.
 
-ghost use Rattle.std.specs.Prelude.{◌≡◌, ◌-◌, ◌^◌, ◌<◌, ◌≤◌, length, slice_get, Some, IfOk, OnOk};
+ghost use Rattle.std.specs.Prelude.{◌≡◌, ◌-◌, ◌^◌, ◌<◌, ◌≤◌, ◌++◌, length, slice_get, Some, IfOk, OnOk};
 ghost use Rattle.std.specs.List.{All};
 ghost use Rattle.mt_lexicon.specs.Joins.{renumbered};
 ghost use Rattle.mt_store_spec.specs.Lexicons.{IsLexiconOf, seen_with};
@@ -88,13 +88,27 @@ fn by_code(alloc: Global, codes: &[u16], numbers: &[u32]) -> Result<Vec<u32>, No
 }
 
 /// For each number what a table has in its place.
-pub(crate) fn renumber(alloc: Global, numbers: &[u16], table: &[u32]) -> Result<Vec<u32>, NoMemory>
+fn renumber(alloc: Global, numbers: &[u16], table: &[u32]) -> Result<Vec<u32>, NoMemory>
     requires { All (λ n. n < length table.now) numbers.now }
     ensures { IfOk result (λ next. next.items ≡ renumbered table.now numbers.now) }
 {
-    let mut next = Vec::with_capacity(alloc, numbers.len())?;
+    let mut next = Vec::new(alloc);
+    push_renumbered(&mut next, numbers, table)?;
+    Ok(next)
+}
+
+/// Adds for each number what a table has in its place.
+pub(crate) fn push_renumbered(
+    next: &mut Vec<u32>,
+    numbers: &[u16],
+    table: &[u32],
+) -> Result<(), NoMemory>
+    requires { All (λ n. n < length table.now) numbers.now }
+    ensures { OnOk result (next.new.items ≡ next.old.items ++ renumbered table.now numbers.now) }
+{
+    next.reserve(numbers.len())?;
     for number in numbers {
         next.push_reserved(table[*number as usize]);
     }
-    Ok(next)
+    Ok(())
 }

@@ -7,7 +7,7 @@ ghost use Rattle.mt_text_spec.specs.Texts.{ValidText, text_tokens_limit};
 ghost use Rattle.mt_generate_spec.specs.Generated.{generated_text, tokens_from};
 ghost use Rattle.mt_segment_spec.specs.Tables.{AreBaseTables, AreTablesOf, AreTablesUnder};
 ghost use Rattle.mt_generate_tables.specs.Coded.{values_of};
-ghost use Rattle.mt_generate_tables.specs.Joined.{AreInstances, tables_of};
+ghost use Rattle.mt_generate_tables.specs.Joined.{AreColumnTables, AreInstances, tables_of};
 
 use super::drawing::Draws;
 use super::instances::instances;
@@ -38,9 +38,17 @@ impl Model for ColumnTables {
     ghost view = { λ t. record { base = None; lexicon = t.lexicon; numbers = t.column; postings = t.postings } };
 }
 
+/// The tables of all three columns.
+#[derive(Drop)]
+struct Columns {
+    word: ColumnTables,
+    tag: ColumnTables,
+    lemma: ColumnTables,
+}
+
 /// The segment of the generated text of this name that has so many tokens drawn from the seed, under the standard registry. The text itself is not made. Where the
-/// machine runs more than one thread at a time, one draws many tokens while another makes the instances. Then three make the tables, a column each, and beside each
-/// of them another makes half of the column's lists of places.
+/// machine runs more than one thread at a time, up to four draw the tokens of a long text. Then one makes the instances, and three make the tables, a column each, and
+/// beside each of them another makes half of the column's lists of places.
 pub fn generated_segment<R: Threads + Sync>(
     rt: &R,
     alloc: Global,
@@ -54,60 +62,64 @@ pub fn generated_segment<R: Threads + Sync>(
     requires text { ValidText registry.now (generated_text name seed tokens) }
     ensures { IfOk result (λ segment. (images : Items ℕ → Items ℕ → Items ℕ) → AreTablesOf images registry.now (generated_text name seed tokens ∷ []) segment) }
 {
-    let (draws, structs) = drawn(rt, alloc, &name, seed, tokens)?;
-    let (word, tag, lemma) = all_tables(rt, alloc, &draws)?;
+    let draws = Draws::new(rt, alloc, seed, tokens)?;
+    let (columns, structs) = parts(rt, alloc, &name, tokens, &draws)?;
     let mut texts = List::with_capacity(alloc, 1)?;
     texts.push((name, tokens))?;
-    of_columns(alloc, registry, texts, structs, word, tag, lemma)
+    of_columns(alloc, registry, texts, structs, columns)
 }
 
 /// The tables of so many tokens take a millisecond or more, far longer than starting threads does.
 const MANY: usize = 1 << 16;
 
-/// The tokens of the seed, so many, and the instances of their text. Where they are many, another thread makes the instances.
-fn drawn<R: Threads + Sync>(
+/// The tables of the columns of the tokens that were drawn, so many, and the instances of their text. Where they are many, another thread makes the instances.
+fn parts<R: Threads + Sync>(
     rt: &R,
     alloc: Global,
     name: &Value,
-    seed: u64,
     tokens: u32,
-) -> Result<(Draws, Lists<StructSpan>), NoMemory>
-    ensures draws { IfOk result (λ pair. pair.0 ≡ tokens_from seed 0 tokens) }
+    draws: &Draws,
+) -> Result<(Columns, Lists<StructSpan>), NoMemory>
+    requires { length draws.now ≤ text_tokens_limit }
+    ensures columns { IfOk result (λ pair. AreColumnTables draws.now pair.0.word pair.0.tag pair.0.lemma) }
     ensures structs { IfOk result (λ pair. AreInstances name.now tokens pair.1) }
 {
     if (tokens as usize) < MANY || current_num_threads(rt) < 2 {
         let structs = instances(alloc, name, tokens)?;
-        return Ok((Draws::new(rt, alloc, seed, tokens)?, structs));
+        return Ok((all_columns(rt, alloc, draws)?, structs));
     }
     let structs = move || -> Result<Lists<StructSpan>, NoMemory>
         ensures { IfOk result (AreInstances name.entry.now tokens) }
     { instances(alloc, name, tokens) };
-    let draws = move || -> Result<Draws, NoMemory>
-        requires { IsSync R.row }
-        ensures { IfOk result (λ draws. draws ≡ tokens_from seed 0 tokens) }
-    { Draws::new(rt, alloc, seed, tokens) };
-    let (structs, draws) = join(rt, structs, draws);
-    Ok((draws?, structs?))
+    let columns = move || -> Result<Columns, NoMemory>
+        requires { IsSync R.row × (length draws.now ≤ text_tokens_limit) }
+        ensures { IfOk result (λ all. AreColumnTables draws.entry.now all.word all.tag all.lemma) }
+    { columns_beside(rt, alloc, draws) };
+    let (structs, columns) = join(rt, structs, columns);
+    Ok((columns?, structs?))
 }
 
 /// The tables of all three columns of the tokens that were drawn.
-fn all_tables<R: Threads + Sync>(
+fn all_columns<R: Threads + Sync>(rt: &R, alloc: Global, draws: &Draws) -> Result<Columns, NoMemory>
+    requires { length draws.now ≤ text_tokens_limit }
+    ensures { IfOk result (λ all. AreColumnTables draws.now all.word all.tag all.lemma) }
+{
+    let word = tables(rt, alloc, draws, 0)?;
+    let tag = tables(rt, alloc, draws, 1)?;
+    let lemma = tables(rt, alloc, draws, 2)?;
+    Ok(Columns { word, tag, lemma })
+}
+
+/// The same, made side by side.
+fn columns_beside<R: Threads + Sync>(
     rt: &R,
     alloc: Global,
     draws: &Draws,
-) -> Result<(ColumnTables, ColumnTables, ColumnTables), NoMemory>
+) -> Result<Columns, NoMemory>
     requires { length draws.now ≤ text_tokens_limit }
-    ensures word { IfOk result (λ all. AreBaseTables (values_of 0 draws.now) all.0) }
-    ensures tag { IfOk result (λ all. AreBaseTables (values_of 1 draws.now) all.1) }
-    ensures lemma { IfOk result (λ all. AreBaseTables (values_of 2 draws.now) all.2) }
+    ensures { IfOk result (λ all. AreColumnTables draws.now all.word all.tag all.lemma) }
 {
-    if draws.len() < MANY || current_num_threads(rt) < 2 {
-        let word = tables(rt, alloc, draws, 0)?;
-        let tag = tables(rt, alloc, draws, 1)?;
-        let lemma = tables(rt, alloc, draws, 2)?;
-        return Ok((word, tag, lemma));
-    }
-    let first = move || -> Result<ColumnTables, NoMemory>
+    let word = move || -> Result<ColumnTables, NoMemory>
         requires { IsSync R.row × (length draws.now ≤ text_tokens_limit) }
         ensures { IfOk result (λ tables. AreBaseTables (values_of 0 draws.entry.now) tables) }
     { tables(rt, alloc, draws, 0) };
@@ -116,9 +128,10 @@ fn all_tables<R: Threads + Sync>(
         ensures tag { IfOk result (λ pair. AreBaseTables (values_of 1 draws.entry.now) pair.0) }
         ensures lemma { IfOk result (λ pair. AreBaseTables (values_of 2 draws.entry.now) pair.1) }
     { last_tables(rt, alloc, draws) };
-    let (first, others) = join(rt, first, others);
+    let (word, others) = join(rt, word, others);
     let (tag, lemma) = others?;
-    Ok((first?, tag, lemma))
+    let word = word?;
+    Ok(Columns { word, tag, lemma })
 }
 
 /// The tables of the tags and of the lemmas of the tokens that were drawn, made side by side.
@@ -169,13 +182,12 @@ fn of_columns(
     registry: &Registry,
     texts: List<(Value, u32)>,
     structs: Lists<StructSpan>,
-    word: ColumnTables,
-    tag: ColumnTables,
-    lemma: ColumnTables,
+    columns: Columns,
 ) -> Result<Segment, NoMemory>
-    requires { AreTablesUnder registry.now (tables_of texts structs word tag lemma) }
-    ensures { IfOk result (λ segment. segment ≡ tables_of texts structs word tag lemma) }
+    requires { AreTablesUnder registry.now (tables_of texts structs columns.word columns.tag columns.lemma) }
+    ensures { IfOk result (λ segment. segment ≡ tables_of texts structs columns.word columns.tag columns.lemma) }
 {
+    let Columns { word, tag, lemma } = columns;
     let lexicons = three(alloc, word.lexicon, tag.lexicon, lemma.lexicon)?;
     let columns = three(alloc, word.column, tag.column, lemma.column)?;
     let postings = three(alloc, word.postings, tag.postings, lemma.postings)?;
