@@ -1,4 +1,6 @@
 pub mod Beside
+pub mod BothNumbered
+pub mod CutText
 pub mod Lists
 pub mod Marks
 pub mod Packing

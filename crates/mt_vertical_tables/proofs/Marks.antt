@@ -99,10 +99,10 @@ no_feed xs n none = All-from_get_or (λ b. (b == 10) ≡ false) (take n xs) 0 (�
 no_feed_at_all : (xs : List ℕ) → Nowhere (Passes (is_byte 10) xs) 0 (length xs) → All (λ b. (b == 10) ≡ false) xs
 no_feed_at_all xs none = All-from_get_or (λ b. (b == 10) ≡ false) xs 0 (λ k l. false_from_ne_true (get_or xs k 0 == 10) (none k (omega arith) l))
 
-cut_at : (xs : List ℕ) (n : ℕ) → n < length xs → xs ≡ take n xs ++ get_or xs n 0 ∷ drop (n + 1) xs
+pub cut_at : (xs : List ℕ) (n : ℕ) → n < length xs → xs ≡ take n xs ++ get_or xs n 0 ∷ drop (n + 1) xs
 cut_at xs n l = grind (arith, common_steps, take-append-drop)
 
-of_parts : (x : List ℕ) (parts : List (List ℕ)) → 0 < length parts → lines_of_parts (x ∷ parts) ≡ strip_carriage_return x ∷ lines_of_parts parts
+pub of_parts : (x : List ℕ) (parts : List (List ℕ)) → 0 < length parts → lines_of_parts (x ∷ parts) ≡ strip_carriage_return x ∷ lines_of_parts parts
 of_parts x [] l = absurd (omega (arith, l))
 of_parts x (y ∷ more) l = refl
 

@@ -18,7 +18,7 @@ ByLine column [] values = values ≡ []
 ByLine column (line ∷ ls) values = ((¬ IsToken line) × ByLine column ls values) ⊎ ((value : List ℕ) × (others : List (List ℕ)) × (values ≡ value ∷ others) × IsValueIn column line value × ByLine column ls others)
 
 -- as a filter and a map
-together : (column : ℕ) (ls values : List (List ℕ)) → ByLine column ls values → AreValuesIn column ls values
+pub together : (column : ℕ) (ls values : List (List ℕ)) → ByLine column ls values → AreValuesIn column ls values
 together column [] values e = record { are_tokens = []; told = tt; are = e; short = subst (All (λ (v : List ℕ). length v ≤ value_bytes_limit)) (sym e) (All-nil (λ (v : List ℕ). length v ≤ value_bytes_limit)) }
 together column (line ∷ ls) values (inl (none, h)) =
     let rest = together column ls values h in

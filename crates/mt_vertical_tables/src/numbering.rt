@@ -72,7 +72,7 @@ impl Numbering {
 }
 
 /// Puts new numbers in the place of old ones.
-fn renumber(numbers: &mut [u32], next: &Renumbering)
+pub(crate) fn renumber(numbers: &mut [u32], next: &Renumbering)
     requires { All (λ n. n < length next.now) numbers.old }
     ensures { numbers.new ≡ renumbered next.now numbers.old }
 {

@@ -2,7 +2,7 @@ use Rattle.std.proofs.Common.{◌≡◌, length, rules, arith}
 use Rattle.std.proofs.lemmas.Bool.{eqb-true}
 use Rattle.std.proofs.lemmas.Grind.{common_steps}
 use Rattle.mt_vertical_tables.proofs.Values.{goes_on, all_seen}
-use Rattle.mt_vertical_tables.proofs.columns.number_lines.Goals as goal
+use Rattle.mt_vertical_tables.proofs.lines.number_lines.Goals as goal
 
 pub loop-rest-preserved : goal.loop-rest-preserved
 loop-rest-preserved c = record {

@@ -4,7 +4,7 @@ use denote.Shadow.{shadow}
 use denote.Text.{Utf8}
 use Rattle.mt_text_spec.specs.Texts.{text_tokens_limit}
 use Rattle.mt_vertical_tables.proofs.Values.{IsAt}
-use Rattle.mt_vertical_tables.proofs.columns.number_lines.Given as goal
+use Rattle.mt_vertical_tables.proofs.lines.number_lines.Given as goal
 
 abbrev pub invariant-loop-rest : goal.invariant-loop-rest
 invariant-loop-rest l = record {
